@@ -1,0 +1,3 @@
+pub mod Measure
+pub mod Nearest
+pub mod Ink

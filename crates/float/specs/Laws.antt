@@ -1,0 +1,107 @@
+-- What document 01 says of the minimum and the maximum, and when one test is enough for them. Assumes nothing.
+use mathlib.Core.Path.{_≡_, refl, sym, ap, _∙_}
+use mathlib.Core.Bool.{Bool, true, false, cond, _||_}
+use Prim.Native.Nat.{ℕ}
+use lib.IntN.{ℤ, pos}
+use lib.Ieee.{Float, nan, inf, fin, lt, isNan}
+use Rattle.float.specs.Values.{minOf, maxOf, lesserOf, greaterOf, numberOr}
+
+-- ---- a NaN is dropped, and of two zeros the first is kept
+
+pub min-drops-first : (b : Float) → minOf nan b ≡ b
+unfolding minOf isNan
+min-drops-first b = refl
+
+pub max-drops-first : (b : Float) → maxOf nan b ≡ b
+unfolding maxOf isNan
+max-drops-first b = refl
+
+pub min-drops-second : (a : Float) → minOf a nan ≡ a
+unfolding minOf isNan lt
+min-drops-second nan = refl
+min-drops-second (inf s) = refl
+min-drops-second (fin s m e) = refl
+
+pub max-drops-second : (a : Float) → maxOf a nan ≡ a
+unfolding maxOf isNan lt
+max-drops-second nan = refl
+max-drops-second (inf s) = refl
+max-drops-second (fin s m e) = refl
+
+pub min-first-zero : (s t : Bool) → minOf (fin s 0 (pos 0)) (fin t 0 (pos 0)) ≡ fin s 0 (pos 0)
+unfolding minOf isNan lt
+min-first-zero true true = refl
+min-first-zero true false = refl
+min-first-zero false true = refl
+min-first-zero false false = refl
+
+pub max-first-zero : (s t : Bool) → maxOf (fin s 0 (pos 0)) (fin t 0 (pos 0)) ≡ fin s 0 (pos 0)
+unfolding maxOf isNan lt
+max-first-zero true true = refl
+max-first-zero true false = refl
+max-first-zero false true = refl
+max-first-zero false false = refl
+
+-- ---- one test instead of two
+
+-- a number's minimum is one test
+pub lesser-min : (a b : Float) → isNan a ≡ false → lesserOf a b ≡ minOf a b
+unfolding lesserOf minOf
+lesser-min a b h = simp h
+
+pub greater-max : (a b : Float) → isNan a ≡ false → greaterOf a b ≡ maxOf a b
+unfolding greaterOf maxOf
+greater-max a b h = simp h
+
+either : (t : Bool) (x : Float) → cond t x x ≡ x
+either true x = refl
+either false x = refl
+
+-- with b in the place of a NaN one test is enough too
+pub mended-min : (a b : Float) → lesserOf (numberOr a b) b ≡ minOf a b
+unfolding lesserOf minOf numberOr isNan
+mended-min nan b = either (lt b b) b
+mended-min (inf s) b = refl
+mended-min (fin s m e) b = refl
+
+pub mended-max : (a b : Float) → greaterOf (numberOr a b) b ≡ maxOf a b
+unfolding greaterOf maxOf numberOr isNan
+mended-max nan b = either (lt b b) b
+mended-max (inf s) b = refl
+mended-max (fin s m e) b = refl
+
+-- what is above or below something is a number
+pub above-number : (a b : Float) → lt a b ≡ true → isNan b ≡ false
+unfolding lt isNan
+above-number a (inf s) h = refl
+above-number a (fin s m e) h = refl
+above-number nan nan h = sym h
+above-number (inf s) nan h = sym h
+above-number (fin s m e) nan h = sym h
+
+pub below-number : (a b : Float) → lt a b ≡ true → isNan a ≡ false
+unfolding lt isNan
+below-number nan nan h = sym h
+below-number nan (inf s) h = sym h
+below-number nan (fin s m e) h = sym h
+below-number (inf s) b h = refl
+below-number (fin s m e) b h = refl
+
+kept : (t : Bool) (a b : Float) → isNan a ≡ false → (t ≡ true → isNan b ≡ false) → isNan (cond t b a) ≡ false
+kept true a b h k = k refl
+kept false a b h k = h
+
+pub lesser-number : (a b : Float) → isNan a ≡ false → isNan (lesserOf a b) ≡ false
+unfolding lesserOf
+lesser-number a b h = kept (lt b a) a b h (below-number b a)
+
+pub greater-number : (a b : Float) → isNan a ≡ false → isNan (greaterOf a b) ≡ false
+unfolding greaterOf
+greater-number a b h = kept (lt a b) a b h (above-number a b)
+
+-- the two ends of a narrowed interval
+pub low-end : (t a b : Float) → isNan t ≡ false → greaterOf t (lesserOf (numberOr a b) b) ≡ maxOf t (minOf a b)
+low-end t a b h = ap (greaterOf t) (mended-min a b) ∙ greater-max t (minOf a b) h
+
+pub high-end : (t a b : Float) → isNan t ≡ false → lesserOf t (greaterOf (numberOr a b) b) ≡ minOf t (maxOf a b)
+high-end t a b h = ap (lesserOf t) (mended-max a b) ∙ lesser-min t (maxOf a b) h

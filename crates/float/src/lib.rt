@@ -1,0 +1,75 @@
+// Absolute value, minimum, maximum and clamp on f32. specs/Values.antt has what each returns.
+ghost use mathlib.Core.Path.{_≡_};
+ghost use Rattle.float.specs.Values.{absOf, minOf, maxOf, clampOf, lesserOf, greaterOf, numberOr};
+
+pub fn abs(x: f32) -> f32
+    ensures { λ r. ⌜ r ≡ absOf x ⌝ }
+{
+    if x < 0.0 {
+        -x
+    } else if x == 0.0 {
+        0.0
+    } else {
+        x
+    }
+}
+
+// The smaller of two numbers, and the other one where one is a NaN.
+pub fn min(a: f32, b: f32) -> f32
+    ensures { λ r. ⌜ r ≡ minOf a b ⌝ }
+{
+    if a != a {
+        b
+    } else if b < a {
+        b
+    } else {
+        a
+    }
+}
+
+// The larger of two numbers, and the other one where one is a NaN.
+pub fn max(a: f32, b: f32) -> f32
+    ensures { λ r. ⌜ r ≡ maxOf a b ⌝ }
+{
+    if a != a {
+        b
+    } else if b > a {
+        b
+    } else {
+        a
+    }
+}
+
+// Low below low, high above high, and else x itself, a NaN too.
+pub fn clamp(x: f32, low: f32, high: f32) -> f32
+    ensures { λ r. ⌜ r ≡ clampOf x low high ⌝ }
+{
+    if x < low {
+        low
+    } else if x > high {
+        high
+    } else {
+        x
+    }
+}
+
+// The minimum by one test, right where a is a number. specs/Laws.antt says when it may stand for `min`.
+pub fn lesser(a: f32, b: f32) -> f32
+    ensures { λ r. ⌜ r ≡ lesserOf a b ⌝ }
+{
+    if b < a { b } else { a }
+}
+
+// The maximum by one test, right where a is a number.
+pub fn greater(a: f32, b: f32) -> f32
+    ensures { λ r. ⌜ r ≡ greaterOf a b ⌝ }
+{
+    if b > a { b } else { a }
+}
+
+// a, or b in the place of a NaN.
+pub fn number_or(a: f32, b: f32) -> f32
+    ensures { λ r. ⌜ r ≡ numberOr a b ⌝ }
+{
+    if a != a { b } else { a }
+}

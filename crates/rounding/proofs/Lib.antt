@@ -1,0 +1,4 @@
+pub mod Sizes
+pub mod Whole
+pub mod Ends
+pub mod Standard

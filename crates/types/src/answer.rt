@@ -1,0 +1,60 @@
+// Answers that may be missing or refused. A refusal carries its number and nothing else.
+use crate::shape::Aabb2;
+use crate::shape::Vec2;
+
+// The stretch of a line or a ray inside a box, by the parameter at which it enters and leaves.
+pub enum Interval {
+    Miss,
+    Hit(f32, f32),
+}
+
+// A length between two ranges or across what they share, where there is one.
+pub enum Extent {
+    None,
+    Some(f32),
+    Refused(u32),
+}
+
+pub enum Length {
+    Some(f32),
+    Refused(u32),
+}
+
+// A point's image under a transform.
+pub enum Image {
+    None,
+    Some(Vec2),
+}
+
+pub enum Nearest {
+    Some(Vec2),
+    Refused(u32),
+}
+
+pub enum Boxed {
+    Some(Aabb2),
+    Refused(u32),
+}
+
+// What became of a box lent to be widened.
+pub enum Widened {
+    Done,
+    Refused(u32),
+}
+
+// The pixels of a box: columns from x0 up to x1, rows from y0 up to y1, low end in and high end out.
+pub enum Pixels {
+    Some {
+        x0: usize,
+        y0: usize,
+        x1: usize,
+        y1: usize,
+    },
+    Refused(u32),
+}
+
+// How many entries were written to a lent list.
+pub enum Listed {
+    Count(usize),
+    Refused(u32),
+}

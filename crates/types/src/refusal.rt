@@ -1,0 +1,28 @@
+// The refusal numbers of document 01, named once.
+
+// A lent list is shorter than what is to be written.
+pub const ROOM: u32 = 1;
+// Both ends of a stroke are equal.
+pub const SAME_ENDS: u32 = 2;
+// A coordinate is not finite, or too large.
+pub const COORDINATE: u32 = 3;
+// A side of an image or a sheet is too large, or a tile size is 0 or too large.
+pub const SIZE: u32 = 4;
+// A range is not ordered: low is not at most high.
+pub const ORDER: u32 = 5;
+// A radius is not at least 0.
+pub const RADIUS: u32 = 6;
+// A length to the turned box is NaN.
+pub const NAN_LENGTH: u32 = 7;
+// A corner has no image.
+pub const NO_IMAGE: u32 = 8;
+// An index is not below the number of boxes.
+pub const INDEX: u32 = 9;
+// A hatch list: another mark, version, count or length.
+pub const MARK: u32 = 10;
+
+pub const VERSION: u32 = 11;
+
+pub const COUNT: u32 = 12;
+
+pub const LENGTH: u32 = 13;
