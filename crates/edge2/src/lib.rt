@@ -11,6 +11,6 @@ pub use measure::position_from_ratio;
 pub use measure::ratio_from_position;
 pub use measure::squared_length;
 pub use measure::unit_edge_vector;
+pub use nearest::OnEdge;
 pub use nearest::nearest_origin;
 pub use nearest::nearest_to_point;
-pub use nearest::OnEdge;

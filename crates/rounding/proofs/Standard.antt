@@ -13,7 +13,8 @@ use lib.Ieee.Exact.{HasValue}
 use lib.Ieee.Back.{whole-unique}
 use lib.Ieee.Scale.{finite}
 use Rattle.rounding.specs.Values.{sizeDown, sizeUp, floorOf, ceilOf}
-use Rattle.rounding.specs.Integral.{signed, sign, atMost, atLeast, TowardNegative, TowardPositive}
+use Rattle.float.specs.Units.{signed}
+use Rattle.rounding.specs.Integral.{sign, atMost, atLeast, TowardNegative, TowardPositive}
 use Rattle.rounding.proofs.Ends.{Greatest, Least, down-greatest, up-least, down-exact, up-exact}
 
 -- ---- the order of negated numbers

@@ -1,18 +1,14 @@
 -- What IEEE 754 asks of rounding to an integral value, over whole numbers. Definitions only.
 -- "roundToIntegralTowardNegative: the integral value closest to and no greater than x", TowardPositive: "no less than x";
 -- "the sign of a zero result is the sign of the operand" (IEEE 754, 5.9 and 6.3).
-use mathlib.Core.Bool.{Bool, true, false}
+use mathlib.Core.Bool.{Bool, false}
 use Prim.Native.Nat.{ℕ, _*_}
-use lib.IntN.{ℤ, pos, negℤ, _*ℤ_}
+use lib.IntN.{ℤ, pos, _*ℤ_}
 use lib.Signed.{leZ}
 use lib.Dec.{T}
 use lib.Ieee.{Float, nan, inf, fin, up, down}
 use lib.Ieee.Exact.{HasValue}
-
--- the whole number of size n with the sign s
-abbrev pub signed : Bool → ℕ → ℤ
-signed false n = pos n
-signed true n = negℤ (pos n)
+use Rattle.float.specs.Units.{signed}
 
 abbrev pub sign : Float → Bool
 sign nan = false

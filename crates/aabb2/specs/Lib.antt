@@ -1,0 +1,4 @@
+pub mod From
+pub mod Change
+pub mod Distance
+pub mod Raster
