@@ -1,2 +1,8 @@
-// The library as C sees it: one wrapper a routine, nothing but calls. include/bagnoszyk.h declares them.
-mod float32;
+// The library as C sees it: one wrapper a routine, nothing but calls. Its answers are structs of numbers, since an enum has no C form.
+mod answers;
+mod boxes;
+mod edges;
+mod floats;
+mod matrices;
+mod ranges;
+mod vectors;

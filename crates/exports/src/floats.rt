@@ -62,6 +62,13 @@ pub extern "C" fn bgz_f32_to_u32(x: f32) -> u32
 }
 
 #[no_mangle]
+pub extern "C" fn bgz_f32_to_usize(x: f32) -> usize
+    ensures { λ r. ⌜ r ≡ toUnsigned 64 x ⌝ }
+{
+    rounding::to_usize(x)
+}
+
+#[no_mangle]
 pub extern "C" fn bgz_f32_sqrt(x: f32) -> f32
     ensures { λ r. ⌜ r ≡ sqrtOf x ⌝ }
 {

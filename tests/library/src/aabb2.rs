@@ -1,0 +1,77 @@
+//! Upright boxes of the plane.
+
+use crate::shapes::{Aabb2, Mat3, Vec2};
+
+unsafe extern "C" {
+    #[link_name = "bgz_aabb2_from_two_points"]
+    pub safe fn from_two_points(p: Vec2, q: Vec2, radius: f32) -> Aabb2;
+
+    #[link_name = "bgz_aabb2_from_two_aabbs"]
+    pub safe fn from_two_aabbs(a: Aabb2, b: Aabb2) -> Aabb2;
+
+    #[link_name = "bgz_aabb2_center"]
+    pub safe fn center(b: Aabb2) -> Vec2;
+
+    #[link_name = "bgz_aabb2_max_edge_size"]
+    pub safe fn max_edge_size(b: Aabb2) -> f32;
+
+    #[link_name = "bgz_aabb2_to_transformation_world2unit_ortho_preserve_asp"]
+    pub safe fn to_transformation_world2unit_ortho_preserve_asp(b: Aabb2) -> Mat3;
+
+    #[link_name = "bgz_aabb2_is_include_point2"]
+    pub safe fn is_include_point2(b: Aabb2, p: Vec2) -> bool;
+
+    #[link_name = "bgz_aabb2_is_intersect_square"]
+    pub safe fn is_intersect_square(b: Aabb2, p: Vec2, radius: f32) -> bool;
+
+    #[link_name = "bgz_aabb2_sdf"]
+    pub safe fn sdf(b: Aabb2, p: Vec2) -> f32;
+
+    #[link_name = "bgz_aabb2_scale"]
+    pub safe fn scale(b: Aabb2, s: f32) -> Aabb2;
+
+    #[link_name = "bgz_aabb2_translate"]
+    pub safe fn translate(b: Aabb2, t: Vec2) -> Aabb2;
+}
+
+mod raw {
+    use crate::answers::*;
+    use crate::shapes::*;
+
+    unsafe extern "C" {
+        #[link_name = "bgz_aabb2_from_point"]
+        pub safe fn from_point(p: Vec2, radius: f32) -> BoxAnswer;
+
+        #[link_name = "bgz_aabb2_add_point"]
+        pub safe fn add_point(b: Aabb2, p: Vec2, radius: f32) -> BoxAnswer;
+
+        #[link_name = "bgz_aabb2_rasterize"]
+        pub safe fn rasterize(b: Aabb2, width: usize, height: usize) -> PixelsAnswer;
+
+        #[link_name = "bgz_aabb2_transform_homogeneous"]
+        pub safe fn transform_homogeneous(b: Aabb2, m: Mat3) -> BoxAnswer;
+
+        #[link_name = "bgz_aabb2_nearest_point2"]
+        pub safe fn nearest_point2(b: Aabb2, p: Vec2) -> PointAnswer;
+    }
+}
+
+pub fn from_point(p: Vec2, radius: f32) -> Result<Aabb2, u32> {
+    raw::from_point(p, radius).result()
+}
+
+pub fn add_point(b: Aabb2, p: Vec2, radius: f32) -> Result<Aabb2, u32> {
+    raw::add_point(b, p, radius).result()
+}
+
+pub fn rasterize(b: Aabb2, width: usize, height: usize) -> Result<[usize; 4], u32> {
+    raw::rasterize(b, width, height).result()
+}
+
+pub fn transform_homogeneous(b: Aabb2, m: Mat3) -> Result<Aabb2, u32> {
+    raw::transform_homogeneous(b, m).result()
+}
+
+pub fn nearest_point2(b: Aabb2, p: Vec2) -> Result<Vec2, u32> {
+    raw::nearest_point2(b, p).result()
+}

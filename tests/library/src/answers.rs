@@ -1,0 +1,87 @@
+//! Answers of the C ABI, and what they say in Rust: an option where there may be none, a result where
+//! the call may be refused. The error is the refusal's number.
+
+use crate::shapes::{Aabb2, Vec2};
+
+/// The status of no answer. 0 is an answer, any other number a refusal.
+const NONE: u32 = 255;
+
+#[repr(C)]
+pub struct FloatAnswer {
+    status: u32,
+    value: f32,
+}
+
+#[repr(C)]
+pub struct PointAnswer {
+    status: u32,
+    value: Vec2,
+}
+
+#[repr(C)]
+pub struct BoxAnswer {
+    status: u32,
+    value: Aabb2,
+}
+
+#[repr(C)]
+pub struct IntervalAnswer {
+    status: u32,
+    tmin: f32,
+    tmax: f32,
+}
+
+#[repr(C)]
+pub struct PixelsAnswer {
+    status: u32,
+    x0: usize,
+    y0: usize,
+    x1: usize,
+    y1: usize,
+}
+
+impl FloatAnswer {
+    pub fn result(self) -> Result<f32, u32> {
+        result(self.status, self.value)
+    }
+
+    pub fn option(self) -> Result<Option<f32>, u32> {
+        option(self.status, self.value)
+    }
+}
+
+impl PointAnswer {
+    pub fn result(self) -> Result<Vec2, u32> {
+        result(self.status, self.value)
+    }
+
+    pub fn option(self) -> Option<Vec2> {
+        (self.status == 0).then_some(self.value)
+    }
+}
+
+impl BoxAnswer {
+    pub fn result(self) -> Result<Aabb2, u32> {
+        result(self.status, self.value)
+    }
+}
+
+impl IntervalAnswer {
+    pub fn option(self) -> Option<(f32, f32)> {
+        (self.status == 0).then_some((self.tmin, self.tmax))
+    }
+}
+
+impl PixelsAnswer {
+    pub fn result(self) -> Result<[usize; 4], u32> {
+        result(self.status, [self.x0, self.y0, self.x1, self.y1])
+    }
+}
+
+fn result<T>(status: u32, value: T) -> Result<T, u32> {
+    if status == 0 { Ok(value) } else { Err(status) }
+}
+
+fn option<T>(status: u32, value: T) -> Result<Option<T>, u32> {
+    if status == NONE { Ok(None) } else { result(status, value).map(Some) }
+}

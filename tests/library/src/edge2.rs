@@ -1,0 +1,50 @@
+//! Edges.
+
+use crate::shapes::{Aabb2, OnEdge, Vec2};
+
+unsafe extern "C" {
+    #[link_name = "bgz_edge2_length"]
+    pub safe fn length(s: Vec2, e: Vec2) -> f32;
+
+    #[link_name = "bgz_edge2_squared_length"]
+    pub safe fn squared_length(s: Vec2, e: Vec2) -> f32;
+
+    #[link_name = "bgz_edge2_unit_edge_vector"]
+    pub safe fn unit_edge_vector(s: Vec2, e: Vec2) -> Vec2;
+
+    #[link_name = "bgz_edge2_position_from_ratio"]
+    pub safe fn position_from_ratio(p0: Vec2, p1: Vec2, ratio: f32) -> Vec2;
+
+    #[link_name = "bgz_edge2_ratio_from_position"]
+    pub safe fn ratio_from_position(ps: Vec2, pe: Vec2, q: Vec2) -> f32;
+
+    #[link_name = "bgz_edge2_culling_intersection"]
+    pub safe fn culling_intersection(s0: Vec2, e0: Vec2, s1: Vec2, e1: Vec2) -> bool;
+
+    #[link_name = "bgz_edge2_nearest_origin"]
+    pub safe fn nearest_origin(s: Vec2, e: Vec2) -> OnEdge;
+
+    #[link_name = "bgz_edge2_nearest_to_point"]
+    pub safe fn nearest_to_point(s: Vec2, e: Vec2, p: Vec2) -> OnEdge;
+}
+
+mod raw {
+    use crate::answers::*;
+    use crate::shapes::*;
+
+    unsafe extern "C" {
+        #[link_name = "bgz_edge2_intersection_length_against_aabb2"]
+        pub safe fn intersection_length_against_aabb2(s: Vec2, e: Vec2, b: Aabb2) -> FloatAnswer;
+
+        #[link_name = "bgz_edge2_ink"]
+        pub safe fn ink(s: Vec2, e: Vec2, b: Aabb2) -> FloatAnswer;
+    }
+}
+
+pub fn intersection_length_against_aabb2(s: Vec2, e: Vec2, b: Aabb2) -> Result<f32, u32> {
+    raw::intersection_length_against_aabb2(s, e, b).result()
+}
+
+pub fn ink(s: Vec2, e: Vec2, b: Aabb2) -> Result<f32, u32> {
+    raw::ink(s, e, b).result()
+}

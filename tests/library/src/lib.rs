@@ -1,0 +1,11 @@
+//! The library's C ABI (crates/exports) as safe Rust: a file for each module of the library.
+
+pub mod aabb;
+pub mod aabb2;
+pub mod answers;
+pub mod edge2;
+pub mod f32;
+pub mod mat3;
+pub mod range;
+pub mod shapes;
+pub mod vec2;

@@ -1,0 +1,22 @@
+//! Random inputs for each routine.
+
+use crate::figures;
+use crate::inputs::Inputs;
+use crate::options::Options;
+use crate::pairs::pairs;
+
+pub fn run(options: &Options) -> Result<(), String> {
+    println!("{} figures of document 01 hold for the Rust", figures::check()?);
+    let count = options.count.unwrap_or(1_000_000);
+    let pairs = pairs(&options.only)?;
+    for pair in &pairs {
+        let mut inputs = Inputs::new(pair.row, options.seed);
+        for _ in 0..count {
+            pair.compare(inputs.next())?;
+        }
+        println!("{} {count} inputs, no difference", pair.name());
+    }
+    let total = pairs.len() as u64 * count;
+    println!("{} routines, {total} inputs, no difference, seed {}", pairs.len(), options.seed);
+    Ok(())
+}

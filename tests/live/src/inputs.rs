@@ -1,0 +1,76 @@
+//! Random inputs for a routine, the same ones for the same seed.
+
+mod floats;
+mod kinds;
+mod make;
+mod source;
+mod wholes;
+
+pub use kinds::{Kind, mirror};
+
+use crate::judge::Row;
+use crate::random::Random;
+use ask::Args;
+use source::Source;
+
+pub struct Inputs {
+    row: &'static Row,
+    random: Random,
+    args: Args,
+    /// The mirror images of the present input that are still to come.
+    twins: u32,
+}
+
+impl Inputs {
+    pub fn new(row: &'static Row, seed: u64) -> Self {
+        Inputs { row, random: Random::new(seed, row.name), args: Args::default(), twins: 0 }
+    }
+
+    /// The next input. A figure is followed by its two mirror images: a rising line by a falling one.
+    pub fn next(&mut self) -> &Args {
+        loop {
+            match self.twins {
+                0 => self.make(),
+                1 => {
+                    self.mirror(0);
+                    self.mirror(1);
+                    self.twins = 0;
+                }
+                _ => {
+                    self.mirror(0);
+                    self.twins = 1;
+                }
+            }
+            if (self.row.domain)(&self.args) {
+                return &self.args;
+            }
+        }
+    }
+
+    /// The next input. Where an argument may be any float, one takes the special value of this number.
+    pub fn next_special(&mut self, number: usize) -> &Args {
+        self.next();
+        let free = self.row.shape.iter().all(|kind| *kind == Kind::Float);
+        if let Some(special) = floats::SPECIALS.get(number).filter(|_| free) {
+            // Each value comes with both signs, one after the other: the same argument takes both.
+            let at = number / 2 % self.args.floats.len();
+            self.args.floats[at] = *special;
+        }
+        &self.args
+    }
+
+    fn make(&mut self) {
+        self.args.floats.clear();
+        self.args.wholes.clear();
+        let source = Source::random(&mut self.random);
+        for kind in self.row.shape {
+            make::make(*kind, source, &mut self.random, &mut self.args);
+        }
+        let figure = self.row.shape.iter().any(|kind| kind.is_figure());
+        self.twins = if source.is_grid() && figure { 2 } else { 0 };
+    }
+
+    fn mirror(&mut self, axis: usize) {
+        mirror(self.row.shape, axis, &mut self.args.floats);
+    }
+}

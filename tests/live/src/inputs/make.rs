@@ -1,0 +1,80 @@
+//! Making an argument of a kind.
+
+use super::Kind;
+use super::source::Source;
+use super::wholes;
+use crate::random::Random;
+use ask::Args;
+
+/// Adds an argument.
+pub fn make(kind: Kind, source: Source, random: &mut Random, args: &mut Args) {
+    let start = args.floats.len();
+    for _ in 0..kind.floats().unwrap_or_else(|| random.below(32) as usize) {
+        let float = source.float(&args.floats, random);
+        args.floats.push(float);
+    }
+    let floats = &mut args.floats[start..];
+    arrange(kind, floats, random);
+    add_wholes(kind, floats, random, &mut args.wholes);
+}
+
+/// Makes most arguments what a caller would pass: ends in order, edges at right angles.
+fn arrange(kind: Kind, floats: &mut [f32], random: &mut Random) {
+    match kind {
+        Kind::Radius if !random.one_in(4) => floats[0] = floats[0].abs(),
+        Kind::Range => put_in_order(floats, 0, 1, random),
+        Kind::Box | Kind::Tiles => {
+            put_in_order(floats, 0, 2, random);
+            put_in_order(floats, 1, 3, random);
+        }
+        Kind::Direction if random.one_in(4) => {
+            floats[random.below(2) as usize] = random.pick(&[0.0, -0.0]);
+        }
+        Kind::TurnedBox if !random.one_in(4) => {
+            let ratio = random.pick(&[0.25, 0.5, 1.0, -2.0]);
+            [floats[4], floats[5]] = [-floats[3] * ratio, floats[2] * ratio];
+        }
+        // An affine transform has the last row 0 0 1. With 0 0 0 no point has an image.
+        Kind::Matrix if random.one_in(2) => {
+            let corner = random.pick(&[1.0, 1.0, 1.0, 0.0]);
+            [floats[2], floats[5], floats[8]] = [0.0, 0.0, corner];
+        }
+        // In the quadrant of the image.
+        Kind::Stroke if !random.one_in(4) => floats.iter_mut().for_each(|x| *x = x.abs()),
+        _ => {}
+    }
+}
+
+fn put_in_order(floats: &mut [f32], low: usize, high: usize, random: &mut Random) {
+    if floats[low] > floats[high] && !random.one_in(8) {
+        floats.swap(low, high);
+    }
+}
+
+fn add_wholes(kind: Kind, floats: &[f32], random: &mut Random, numbers: &mut Vec<u64>) {
+    let side = |random: &mut Random| wholes::any(64, random);
+    match kind {
+        Kind::Side => numbers.push(side(random)),
+        Kind::Index => numbers.push(wholes::any(6, random)),
+        Kind::Stroke => numbers.extend([side(random), side(random), room(random)]),
+        Kind::Tiles => {
+            let size = tile_size(floats, random);
+            numbers.extend([size, side(random), side(random), room(random)]);
+        }
+        _ => {}
+    }
+}
+
+/// The room of a list: often too short, often just enough.
+fn room(random: &mut Random) -> u64 {
+    let most = random.pick(&[4, 20, 400, 4_000]);
+    random.below(most)
+}
+
+/// The size of a tile, such that the box has no more than some hundred columns and rows:
+/// the Rust visits them all, those off the sheet too.
+fn tile_size(corners: &[f32], random: &mut Random) -> u64 {
+    let far = corners.iter().fold(0.0f32, |far, x| far.max(x.abs()));
+    let least = far.min(1_048_576.0) / 256.0;
+    wholes::any(64, random).max(least as u64)
+}

@@ -1,0 +1,52 @@
+//! edge2.rs
+
+use super::{Row, limits, row};
+use crate::inputs::Kind::{Box, Float, Point, Stroke};
+use ask::{Answer, Args};
+use del_geo_core::edge2;
+
+pub const ROWS: &[Row] = &[
+    row("edge2.length", &[Point, Point], |a| edge2::length(&a.fs(0), &a.fs(2)).into()),
+    row("edge2.squared_length", &[Point, Point], |a| {
+        edge2::squared_length(&a.fs(0), &a.fs(2)).into()
+    }),
+    row("edge2.unit_edge_vector", &[Point, Point], |a| {
+        edge2::unit_edge_vector(&a.fs(0), &a.fs(2)).into()
+    }),
+    row("edge2.position_from_ratio", &[Point, Point, Float], |a| {
+        edge2::position_from_ratio(&a.fs(0), &a.fs(2), a.f(4)).into()
+    }),
+    row("edge2.culling_intersection", &[Point, Point, Point, Point], |a| {
+        edge2::culling_intersection(&a.fs(0), &a.fs(2), &a.fs(4), &a.fs(6)).into()
+    }),
+    row("edge2.nearest_origin", &[Point, Point], |a| {
+        nearest(edge2::nearest_origin(&a.fs(0), &a.fs(2)))
+    }),
+    row("edge2.nearest_to_point", &[Point, Point, Point], |a| {
+        nearest(edge2::nearest_to_point(&a.fs(0), &a.fs(2), &a.fs(4)))
+    }),
+    row("edge2.intersection_length_against_aabb2", &[Point, Point, Box], length_in_box)
+        .panic_is(limits::ORDER),
+    row("edge2.overlapping_pixels_dda", &[Stroke], |a| stroke(a).into()),
+    row("edge2.ratio_from_position", &[Point, Point, Point], |a| {
+        edge2::ratio_from_position(&a.fs(0), &a.fs(2), &a.fs(4)).into()
+    }),
+    // Document 01: the ink of a stroke in a box is taken to be its length there.
+    row("edge2.ink", &[Point, Point, Box], length_in_box).panic_is(limits::ORDER),
+];
+
+fn nearest((ratio, [x, y]): (f32, [f32; 2])) -> Answer {
+    [ratio, x, y].into()
+}
+
+fn length_in_box(a: &Args) -> Answer {
+    edge2::intersection_length_against_aabb2(&a.fs(0), &a.fs(2), &a.fs(4)).into()
+}
+
+fn stroke(a: &Args) -> Result<Vec<u32>, u32> {
+    limits::stroke(a.u(0), a.u(1), &a.fs(0))?;
+    let image = (a.u(0) as usize, a.u(1) as usize);
+    let entries = edge2::overlapping_pixels_dda::<f32>(image, &a.fs(0), &a.fs(2));
+    limits::room(entries.len(), a.u(2))?;
+    Ok(entries.into_iter().map(|entry| entry.try_into().unwrap()).collect())
+}

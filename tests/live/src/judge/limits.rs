@@ -1,0 +1,45 @@
+//! Document 01's table of refusals: the numbers, and the checks at its limits, in its order.
+//!
+//! The Rust makes none of these checks. Without them it hangs, or it answers where a refusal is due.
+//! Where the table follows the Rust's panics (5 to 9), a row of the judge says which number a panic
+//! has.
+
+pub const ROOM: u32 = 1;
+pub const SAME_ENDS: u32 = 2;
+pub const COORDINATE: u32 = 3;
+pub const SIZE: u32 = 4;
+pub const ORDER: u32 = 5;
+pub const RADIUS: u32 = 6;
+pub const NAN_LENGTH: u32 = 7;
+pub const NO_IMAGE: u32 = 8;
+pub const INDEX: u32 = 9;
+
+/// The largest side of an image or of a sheet.
+const SIDE: u64 = 16_384;
+
+/// `overlapping_pixels_dda`: 4, 3, 2; `room` is the 1.
+pub fn stroke(width: u64, height: u64, ends: &[f32; 4]) -> Result<(), u32> {
+    refuse(width > SIDE || height > SIDE, SIZE)?;
+    refuse(!ends.iter().all(|x| x.abs() <= 65_536.0), COORDINATE)?;
+    refuse(ends[..2] == ends[2..], SAME_ENDS)
+}
+
+/// `overlapping_tiles`: 4, 3; `room` is the 1.
+pub fn tiles(corners: &[f32; 4], size: u64, width: u64, height: u64) -> Result<(), u32> {
+    refuse(size == 0 || size > 4_096 || width > SIDE || height > SIDE, SIZE)?;
+    refuse(!corners.iter().all(|x| x.abs() <= 1_048_576.0), COORDINATE)
+}
+
+/// `rasterize`: 4.
+pub fn rasterize(width: u64, height: u64) -> Result<(), u32> {
+    refuse(width > SIDE || height > SIDE, SIZE)
+}
+
+/// A lent list: 1.
+pub fn room(entries: usize, room: u64) -> Result<(), u32> {
+    refuse(entries as u64 > room, ROOM)
+}
+
+fn refuse(when: bool, number: u32) -> Result<(), u32> {
+    if when { Err(number) } else { Ok(()) }
+}

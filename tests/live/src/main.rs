@@ -1,0 +1,44 @@
+//! The live comparison: the library and the Rust are given the same inputs, and their answers are compared.
+
+mod all;
+mod compare;
+mod figures;
+mod inputs;
+mod judge;
+mod options;
+mod pairs;
+mod random;
+mod tally;
+mod vectors;
+
+use options::Options;
+use std::env;
+use std::process::ExitCode;
+
+const USAGE: &str = "usage: live MODE [--seed S] [--count N] [--only PREFIX]
+  compare  random inputs for each routine: the library against the Rust
+  all      all 4294967296 inputs of each routine of one float: the library against the Rust
+  vectors  print requests with the Rust's answers
+  tally    count the kinds of the Rust's answers, a check on the inputs";
+
+/// A mode: it ends well, or says what is wrong.
+type Mode = fn(&Options) -> Result<(), String>;
+
+fn main() -> ExitCode {
+    judge::silence_panics();
+    let mut words = env::args().skip(1);
+    let mode: Mode = match words.next().as_deref() {
+        Some("compare") => compare::run,
+        Some("all") => all::run,
+        Some("vectors") => vectors::run,
+        Some("tally") => tally::run,
+        _ => |_| Err(USAGE.to_string()),
+    };
+    match Options::parse(words).and_then(|options| mode(&options)) {
+        Ok(()) => ExitCode::SUCCESS,
+        Err(message) => {
+            eprintln!("{message}");
+            ExitCode::FAILURE
+        }
+    }
+}

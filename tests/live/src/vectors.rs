@@ -1,0 +1,32 @@
+//! Requests with the Rust's answers, for a replay without the Rust: `f32.floor c0200000 = c0400000`.
+
+use crate::inputs::Inputs;
+use crate::options::Options;
+use crate::pairs::{Pair, pairs};
+use std::collections::HashSet;
+
+pub fn run(options: &Options) -> Result<(), String> {
+    let count = options.count.unwrap_or(160) as usize;
+    for pair in pairs(&options.only)? {
+        print(&pair, options.seed, count)?;
+    }
+    Ok(())
+}
+
+/// The special values first, then random inputs. No row comes twice.
+fn print(pair: &Pair, seed: u64, count: usize) -> Result<(), String> {
+    let mut inputs = Inputs::new(pair.row, seed);
+    let mut printed = HashSet::new();
+    for i in 0.. {
+        if printed.len() == count {
+            break;
+        }
+        let args = inputs.next_special(i);
+        let request = pair.request(args);
+        let answer = pair.row.answer(args).ok_or(format!("{request}: the Rust panicked"))?;
+        if printed.insert(request.clone()) {
+            println!("{request} = {answer}");
+        }
+    }
+    Ok(())
+}
