@@ -1,0 +1,64 @@
+-- What a bit pattern stands for: its sign, and if finite its units, by exponent's field and fraction. Assumes nothing.
+use mathlib.Core.Path.{_≡_, refl, sym}
+use mathlib.Core.Bool.{Bool, true, false, not, cond, true≢false}
+use Prim.Native.Nat.{ℕ, zero, suc, _+_, _*_, _/_, _%_, _^_, _≤_, _<_}
+use native.Mathlib.Nat.{mul-one, mul-pos, mod-eq-of-lt}
+use native.Mathlib.Omega.{arith}
+use borrow.Author.Tests.{le-leb, lt-leb, ne-eqb}
+use lib.Arith.{le→nltb}
+use lib.Dec.{T, eqb}
+use lib.Pow.{pow-pos}
+use lib.Ieee.{Float, nan, inf, fin, binary32, ofFields, ofBits, toBits, nanBits, isNan, ne, fits}
+use lib.Ieee.Bits.{ofBits-toBits, nanBits-above}
+use lib.Ieee.Exact.{HasValue, odd-sign}
+use Rattle.float.specs.Units.{inUnits}
+use Rattle.root.proofs.Units.{units-of}
+
+-- ---- by the field x and the fraction t: a field of 0 has no leading digit, and counts as a field of 1
+abbrev pub fieldUnits : ℕ → ℕ → ℕ
+fieldUnits zero t = t * 2 ^ 0
+fieldUnits (suc x) t = (2 ^ 23 + t) * 2 ^ x
+
+pub field-value : (s : Bool) (x t : ℕ) → x < 255 → HasValue (ofFields binary32 s x t) s (fieldUnits x t) (2 ^ 149)
+unfolding ofFields
+field-value s zero t h = odd-sign 24 s t 0 149
+field-value s (suc x) t h = rw (ne-eqb (suc x) 255 (λ e. omega arith)) (odd-sign 24 s (2 ^ 23 + t) x 149)
+
+pub field-positive : (x t : ℕ) → 0 < x * 2 ^ 23 + t → 0 < fieldUnits x t
+field-positive zero t h = rw (mul-one t) (omega arith)
+field-positive (suc x) t h = mul-pos {m = 2 ^ 23 + t} {n = 2 ^ x} (omega arith) (pow-pos x)
+
+-- the highest field
+pub field-top : (s : Bool) (t : ℕ) → ofFields binary32 s 255 t ≡ cond (eqb t 0) (inf s) nan
+unfolding ofFields
+field-top s t = refl
+
+-- ---- by the bits
+pub sign-clear : (b : ℕ) → b < 0x8000_0000 → ofBits binary32 b ≡ ofFields binary32 false (b / 2 ^ 23) (b % 2 ^ 23)
+unfolding ofBits
+sign-clear b h = rw (lt-leb 0x8000_0000 b h, mod-eq-of-lt h)
+
+pub sign-set : (b : ℕ) → 0x8000_0000 ≤ b
+    → ofBits binary32 b ≡ ofFields binary32 true (b % 0x8000_0000 / 2 ^ 23) (b % 2 ^ 23)
+unfolding ofBits
+sign-set b h = rw (le-leb 0x8000_0000 b h)
+
+pub value-at : (b : ℕ) → b < 0x7f80_0000
+    → HasValue (ofBits binary32 b) false (fieldUnits (b / 2 ^ 23) (b % 2 ^ 23)) (2 ^ 149)
+value-at b h = rw (sign-clear b (omega arith)) (field-value false (b / 2 ^ 23) (b % 2 ^ 23) (omega arith))
+
+pub units-at : (b : ℕ) → b < 0x7f80_0000 → inUnits (ofBits binary32 b) ≡ fieldUnits (b / 2 ^ 23) (b % 2 ^ 23)
+units-at b h = units-of (ofBits binary32 b) false (fieldUnits (b / 2 ^ 23) (b % 2 ^ 23)) (value-at b h)
+
+-- ---- a float and its own bits
+pub from-bits : (x : Float) (b : ℕ) → T (fits binary32 x) → toBits binary32 x ≡ b → x ≡ ofBits binary32 b
+from-bits x b f e = rw (← e) (sym (ofBits-toBits binary32 x f))
+
+pub not-nan : (x : Float) → ne x x ≡ false → T (not (isNan x))
+unfolding ne isNan
+not-nan nan h = absurd (true≢false h)
+not-nan (inf s) h = tt
+not-nan (fin s m e) h = tt
+
+pub not-nan-bits : (b : ℕ) → b < 0x7f80_0000 → T (not (nanBits binary32 b))
+not-nan-bits b h = rw (nanBits-above binary32 b) (le→nltb 0x7f80_0000 (b % 0x8000_0000) (omega arith))
