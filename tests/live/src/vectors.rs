@@ -1,12 +1,17 @@
 //! Requests with the Rust's answers, for a replay without the Rust: `f32.floor c0200000 = c0400000`.
+//! Document 01's figures come first.
 
+use crate::figures;
 use crate::inputs::Inputs;
 use crate::options::Options;
 use crate::pairs::{Pair, pairs};
 use std::collections::HashSet;
 
 pub fn run(options: &Options) -> Result<(), String> {
-    let count = options.count.unwrap_or(160) as usize;
+    let count = options.count.unwrap_or(100) as usize;
+    for figure in figures::all()? {
+        println!("{} = {}", figure.request, figure.answer);
+    }
     for pair in pairs(&options.only)? {
         print(&pair, options.seed, count)?;
     }
