@@ -1,5 +1,5 @@
 -- Lengths, directions and positions along an edge, each operation rounded. Definitions only.
-use mathlib.Core.Bool.{Bool, true, false, cond, not, _||_}
+use mathlib.Core.Bool.{Bool, not, _||_}
 use lib.Ieee.{Float, binary32, ofBits, lt}
 use Rattle.types.specs.declared.shape.Vec2.{Vec2}
 use Rattle.float.specs.Rounded.{_⊕_, _⊖_, _⊗_, _⊘_, one}

@@ -1,11 +1,11 @@
 -- The absolute value by the tests `x < 0.0` and `x == 0.0`. Assumes nothing.
-use mathlib.Core.Path.{_≡_, refl, sym, ap, _∙_, subst}
+use mathlib.Core.Path.{_≡_, refl, sym, ap, subst}
 use mathlib.Core.Bool.{Bool, true, false, Bool·beq, _||_}
-use Prim.Native.Nat.{ℕ, zero, suc, _*_, _+_, _^_, _<_, _≤_}
+use Prim.Native.Nat.{ℕ, zero, suc, _*_, _+_, _^_, _<_}
 use native.Mathlib.Nat.{mul-pos, pow-suc, zero-mul}
 use native.Mathlib.Omega.{arith}
 use lib.IntN.{ℤ, pos, negsuc}
-use lib.Dec.{T, eqb, ltb, eqb→eq}
+use lib.Dec.{T, eqb, eqb→eq}
 use lib.Pow.{pow-pos}
 use lib.Ieee.{Float, nan, inf, fin, binary32, neg, lt, eq, fits, up, down}
 use lib.Ieee.Fits.{up-pos, and-l}
@@ -23,8 +23,8 @@ below-zero (inf false) h = ap inf (sym h)
 below-zero (fin true m e) h = refl
 below-zero (fin false m e) h = absurd (omega (arith, ltb-true (m * up e * 1) (0 * down e) h))
 
--- the format has one +0
-one-zero : (e : ℤ) → T (eqb (up e * down e) 1) → e ≡ pos 0
+-- the format writes zero in one way
+pub one-zero : (e : ℤ) → T (eqb (up e * down e) 1) → e ≡ pos 0
 one-zero (pos zero) h = refl
 one-zero (pos (suc k)) h = absurd (omega (arith, eqb→eq (2 ^ suc k * 1) 1 h, pow-suc 2 k, pow-pos k))
 one-zero (negsuc k) h = absurd (omega (arith, eqb→eq (1 * 2 ^ suc k) 1 h, pow-suc 2 k, pow-pos k))

@@ -1,8 +1,7 @@
 -- What document 01 says of the minimum and the maximum, and when one test is enough for them. Assumes nothing.
 use mathlib.Core.Path.{_≡_, refl, sym, ap, _∙_}
-use mathlib.Core.Bool.{Bool, true, false, cond, _||_}
-use Prim.Native.Nat.{ℕ}
-use lib.IntN.{ℤ, pos}
+use mathlib.Core.Bool.{Bool, true, false, cond}
+use lib.IntN.{pos}
 use lib.Ieee.{Float, nan, inf, fin, lt, isNan}
 use Rattle.float.specs.Values.{minOf, maxOf, lesserOf, greaterOf, numberOr}
 

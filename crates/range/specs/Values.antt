@@ -1,6 +1,6 @@
 -- What the range routines return. Definitions only.
 use mathlib.Core.Bool.{Bool, cond, _&&_, _||_}
-use lib.Ieee.{Float, lt, le}
+use lib.Ieee.{lt, le}
 use Rattle.types.specs.declared.shape.Range.{Range}
 use Rattle.types.specs.declared.answer.Extent.{Extent}
 use Rattle.types.specs.declared.answer.Extent.the-variants.{None, Some, Refused}

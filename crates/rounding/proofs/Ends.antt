@@ -1,14 +1,14 @@
 -- The whole numbers around a size, and that an f32 holds each exactly. Sizes are compared over whole numbers:
 -- n against m * 2 ^ e is n * down e against m * up e. Assumes nothing.
-use mathlib.Core.Path.{_≡_, refl, sym, ap, _∙_, subst}
-use mathlib.Core.Bool.{Bool, true, false}
-use Prim.Native.Nat.{ℕ, zero, suc, _+_, _-_, _*_, _/_, _^_, _<_, _≤_}
-use native.Mathlib.Nat.{mul-one, add-mul, div-lt-iff-lt-mul, div-one, add-zero, div-le-self, div-le-of-le-mul, le-div-iff-mul-le, div-mul-le-self, lt-div-mul-add, le-trans}
+use mathlib.Core.Path.{_≡_, refl, sym, _∙_, subst}
+use mathlib.Core.Bool.{Bool}
+use Prim.Native.Nat.{ℕ, zero, suc, _+_, _-_, _*_, _^_, _≤_}
+use native.Mathlib.Nat.{add-mul, div-lt-iff-lt-mul, div-one, add-zero, div-le-self, div-le-of-le-mul, le-div-iff-mul-le, div-mul-le-self, lt-div-mul-add, le-trans}
 use native.Mathlib.Omega.{arith}
 use lib.IntN.{ℤ, pos, negsuc}
 use lib.Dec.{T}
 use lib.Pow.{pow-pos}
-use lib.Ieee.{Float, fin, binary32, up, down, fits, round}
+use lib.Ieee.{Float, fin, binary32, up, down, fits}
 use lib.Ieee.Fits.{down-pos}
 use lib.Ieee.Exact.{HasValue}
 use lib.Ieee.Back.{round-whole}

@@ -1,7 +1,7 @@
 -- `floorOf` and `ceilOf` are IEEE 754's roundToIntegralTowardNegative and TowardPositive, and nothing else is. Assumes nothing.
 use mathlib.Core.Path.{_≡_, refl, sym, ap, _∙_, subst}
 use mathlib.Core.Bool.{Bool, true, false}
-use Prim.Native.Nat.{ℕ, zero, suc, _+_, _*_, _<_, _≤_}
+use Prim.Native.Nat.{ℕ, zero, suc, _*_, _<_, _≤_}
 use native.Mathlib.Nat.{mul-pos, zero-mul}
 use native.Mathlib.Omega.{arith}
 use lib.IntN.{ℤ, pos, negsuc, negℤ, _*ℤ_}
@@ -15,7 +15,7 @@ use lib.Ieee.Scale.{finite}
 use Rattle.rounding.specs.Values.{sizeDown, sizeUp, floorOf, ceilOf}
 use Rattle.float.specs.Units.{signed}
 use Rattle.rounding.specs.Integral.{sign, atMost, atLeast, TowardNegative, TowardPositive}
-use Rattle.rounding.proofs.Ends.{Greatest, Least, down-greatest, up-least, down-exact, up-exact}
+use Rattle.rounding.proofs.Ends.{down-greatest, up-least, down-exact, up-exact}
 
 -- ---- the order of negated numbers
 

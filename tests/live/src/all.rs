@@ -20,6 +20,7 @@ const SEARCHES: &[Search] = &[
     ("f32.sqrt", || difference(|x| same_number(ours::sqrt(x), Float::sqrt(x)))),
     ("f32.to_i32", || difference(|x| ours::to_i32(x) == x as i32)),
     ("f32.to_u32", || difference(|x| ours::to_u32(x) == x as u32)),
+    ("f32.to_usize", || difference(|x| ours::to_usize(x) == x as usize)),
 ];
 
 pub fn run(options: &Options) -> Result<(), String> {
