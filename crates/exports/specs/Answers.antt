@@ -17,11 +17,14 @@ use Rattle.types.specs.declared.answer.Interval.{Interval}
 use Rattle.types.specs.declared.answer.Interval.the-variants as interval
 use Rattle.types.specs.declared.answer.Pixels.{Pixels}
 use Rattle.types.specs.declared.answer.Pixels.the-variants as pixels
+use Rattle.types.specs.declared.answer.Listed.{Listed}
+use Rattle.types.specs.declared.answer.Listed.the-variants as listed
 use Rattle.exports.specs.declared.answers.FloatAnswer.{FloatAnswer}
 use Rattle.exports.specs.declared.answers.PointAnswer.{PointAnswer}
 use Rattle.exports.specs.declared.answers.BoxAnswer.{BoxAnswer}
 use Rattle.exports.specs.declared.answers.IntervalAnswer.{IntervalAnswer}
 use Rattle.exports.specs.declared.answers.PixelsAnswer.{PixelsAnswer}
+use Rattle.exports.specs.declared.answers.CountAnswer.{CountAnswer}
 use Rattle.float.specs.Rounded.{+0}
 
 abbrev pub none : ℕ
@@ -67,3 +70,7 @@ ofInterval (interval.Hit a b) = record { status = 0; tmin = a; tmax = b }
 unfoldable pub ofPixels : Pixels → PixelsAnswer
 ofPixels (pixels.Some x0 y0 x1 y1) = record { status = 0; x0 = x0; y0 = y0; x1 = x1; y1 = y1 }
 ofPixels (pixels.Refused n) = record { status = n; x0 = 0; y0 = 0; x1 = 0; y1 = 0 }
+
+unfoldable pub ofListed : Listed → CountAnswer
+ofListed (listed.Count n) = record { status = 0; count = n }
+ofListed (listed.Refused n) = record { status = n; count = 0 }

@@ -6,11 +6,12 @@ use types::Extent;
 use types::Image;
 use types::Interval;
 use types::Length;
+use types::Listed;
 use types::Nearest;
 use types::Pixels;
 use types::Vec2;
 ghost use mathlib.Core.Path.{_≡_};
-ghost use Rattle.exports.specs.Answers.{ofExtent, ofLength, ofImage, ofNearest, ofBoxed, ofInterval, ofPixels};
+ghost use Rattle.exports.specs.Answers.{ofExtent, ofLength, ofImage, ofNearest, ofBoxed, ofInterval, ofPixels, ofListed};
 
 #[repr(C)]
 pub struct FloatAnswer {
@@ -44,6 +45,12 @@ pub struct PixelsAnswer {
     pub y0: usize,
     pub x1: usize,
     pub y1: usize,
+}
+
+#[repr(C)]
+pub struct CountAnswer {
+    pub status: u32,
+    pub count: usize,
 }
 
 pub fn extent(a: Extent) -> FloatAnswer
@@ -144,5 +151,14 @@ pub fn pixels(a: Pixels) -> PixelsAnswer
             x1: 0,
             y1: 0,
         },
+    }
+}
+
+pub fn listed(a: Listed) -> CountAnswer
+    ensures { λ r. ⌜ r ≡ ofListed a ⌝ }
+{
+    match a {
+        Listed::Count(count) => CountAnswer { status: 0, count },
+        Listed::Refused(status) => CountAnswer { status, count: 0 },
     }
 }

@@ -3,6 +3,8 @@ mod answers;
 mod boxes;
 mod edges;
 mod floats;
+mod lists;
 mod matrices;
 mod ranges;
+mod turned;
 mod vectors;

@@ -1,5 +1,6 @@
 // Answers as text.
 use edge2::OnEdge;
+use obb2::Corners;
 use types::Aabb2;
 use types::Boxed;
 use types::Extent;
@@ -46,6 +47,23 @@ pub fn put_box(out: &mut [u8], b: Aabb2) -> usize {
     let c = put_next(out, a, b.min_y);
     let d = put_next(out, c, b.max_x);
     put_next(out, d, b.max_y)
+}
+
+// One more point of an answer, after a space.
+fn put_next_point(out: &mut [u8], at: usize, p: Vec2) -> usize {
+    let a = put_next(out, at, p.x);
+    put_next(out, a, p.y)
+}
+
+pub fn put_corners(out: &mut [u8], c: Corners) -> usize {
+    let p0 = c.p0;
+    let p1 = c.p1;
+    let p2 = c.p2;
+    let p3 = c.p3;
+    let a = put_point(out, p0);
+    let b = put_next_point(out, a, p1);
+    let d = put_next_point(out, b, p2);
+    put_next_point(out, d, p3)
 }
 
 pub fn put_matrix(out: &mut [u8], m: Mat3) -> usize {

@@ -7,11 +7,13 @@ mod clips;
 mod edges;
 mod field;
 mod float32;
+mod lists;
 mod ranges;
 mod report;
 mod request;
 mod routine;
 mod row;
+mod turned;
 mod vectors;
 
 use crate::bytes::find;

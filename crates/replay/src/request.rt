@@ -8,6 +8,7 @@ use crate::field::read_whole;
 use crate::field::read_word;
 use types::Aabb2;
 use types::Mat3;
+use types::Obb2;
 use types::Range;
 use types::Vec2;
 ghost use Prim.Native.Nat.{_<_, _≤_};
@@ -164,5 +165,18 @@ pub fn matrix_at(request: &[u8], k: usize) -> Mat3
         m02: float_at(request, k + 6),
         m12: float_at(request, k + 7),
         m22: float_at(request, k + 8),
+    }
+}
+
+pub fn turned_at(request: &[u8], k: usize) -> Obb2
+    requires { ⌜ k < 64 ⌝ }
+{
+    Obb2 {
+        cx: float_at(request, k),
+        cy: float_at(request, k + 1),
+        ux: float_at(request, k + 2),
+        uy: float_at(request, k + 3),
+        vx: float_at(request, k + 4),
+        vy: float_at(request, k + 5),
     }
 }

@@ -4,7 +4,9 @@ use crate::boxes;
 use crate::clips;
 use crate::edges;
 use crate::float32;
+use crate::lists;
 use crate::ranges;
+use crate::turned;
 use crate::vectors;
 
 pub const COUNT: usize = 256;
@@ -25,6 +27,8 @@ fn put_answer(n: usize, request: &[u8], out: &mut [u8]) -> usize {
         3 => edges::put_answer(k, request, out),
         4 => clips::put_answer(k, request, out),
         5 => boxes::put_answer(k, request, out),
+        6 => turned::put_answer(k, request, out),
+        7 => lists::put_answer(k, request, out),
         _ => 0,
     }
 }

@@ -1,7 +1,7 @@
 //! An answer: what it can be, and how it prints.
 
 use crate::floats::Floats;
-use bagnoszyk::shapes::{Aabb2, Mat3, OnEdge, Vec2};
+use bagnoszyk::shapes::{Aabb2, Corners, Mat3, OnEdge, Vec2};
 use std::fmt;
 
 #[derive(Clone, Debug, PartialEq)]
@@ -67,6 +67,12 @@ impl From<Aabb2> for Answer {
 impl From<Mat3> for Answer {
     fn from(m: Mat3) -> Self {
         m.0.into()
+    }
+}
+
+impl From<Corners> for Answer {
+    fn from(Corners([p0, p1, p2, p3]): Corners) -> Self {
+        [p0.x, p0.y, p1.x, p1.y, p2.x, p2.y, p3.x, p3.y].into()
     }
 }
 

@@ -4,7 +4,7 @@
 //! `u` a whole number in decimal. A last `f*` is any number of floats.
 
 use crate::routines;
-use bagnoszyk::shapes::{Aabb2, Mat3, Range, Vec2};
+use bagnoszyk::shapes::{Aabb2, Mat3, Obb2, Range, Vec2};
 
 /// The arguments of a request: its floats in their order, and its whole numbers in theirs.
 #[derive(Clone, Debug, Default)]
@@ -39,6 +39,10 @@ impl Args {
 
     pub fn aabb2(&self, at: usize) -> Aabb2 {
         self.fs(at).into()
+    }
+
+    pub fn obb2(&self, at: usize) -> Obb2 {
+        Obb2(self.fs(at))
     }
 
     pub fn matrix(&self, at: usize) -> Mat3 {

@@ -5,6 +5,7 @@ mod aabb2;
 mod edge2;
 mod f32;
 mod mat3;
+mod obb2;
 mod range;
 mod vec2;
 
@@ -34,6 +35,7 @@ pub fn all() -> impl Iterator<Item = &'static Routine> {
         edge2::ROUTINES,
         aabb::ROUTINES,
         aabb2::ROUTINES,
+        obb2::ROUTINES,
     ];
     modules.into_iter().flatten()
 }

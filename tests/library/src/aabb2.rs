@@ -53,6 +53,16 @@ mod raw {
 
         #[link_name = "bgz_aabb2_nearest_point2"]
         pub safe fn nearest_point2(b: Aabb2, p: Vec2) -> PointAnswer;
+
+        #[link_name = "bgz_aabb2_overlapping_tiles"]
+        pub fn overlapping_tiles(
+            b: Aabb2,
+            size: usize,
+            shape_width: usize,
+            shape_height: usize,
+            list: *mut u32,
+            room: usize,
+        ) -> CountAnswer;
     }
 }
 
@@ -74,4 +84,17 @@ pub fn transform_homogeneous(b: Aabb2, m: Mat3) -> Result<Aabb2, u32> {
 
 pub fn nearest_point2(b: Aabb2, p: Vec2) -> Result<Vec2, u32> {
     raw::nearest_point2(b, p).result()
+}
+
+/// Writes the tiles to the list's first entries and answers how many there are; a refusal leaves the list as it was.
+pub fn overlapping_tiles(
+    b: Aabb2,
+    size: usize,
+    shape_width: usize,
+    shape_height: usize,
+    list: &mut [u32],
+) -> Result<usize, u32> {
+    let (start, room) = (list.as_mut_ptr(), list.len());
+    // The list is lent for the call alone, by its start and its length.
+    unsafe { raw::overlapping_tiles(b, size, shape_width, shape_height, start, room) }.result()
 }

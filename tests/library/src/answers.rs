@@ -40,6 +40,12 @@ pub struct PixelsAnswer {
     y1: usize,
 }
 
+#[repr(C)]
+pub struct CountAnswer {
+    status: u32,
+    count: usize,
+}
+
 impl FloatAnswer {
     pub fn result(self) -> Result<f32, u32> {
         result(self.status, self.value)
@@ -75,6 +81,12 @@ impl IntervalAnswer {
 impl PixelsAnswer {
     pub fn result(self) -> Result<[usize; 4], u32> {
         result(self.status, [self.x0, self.y0, self.x1, self.y1])
+    }
+}
+
+impl CountAnswer {
+    pub fn result(self) -> Result<usize, u32> {
+        result(self.status, self.count)
     }
 }
 

@@ -6,6 +6,7 @@ pub mod answers;
 pub mod edge2;
 pub mod f32;
 pub mod mat3;
+pub mod obb2;
 pub mod range;
 pub mod shapes;
 pub mod vec2;

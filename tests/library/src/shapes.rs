@@ -24,6 +24,16 @@ pub struct Aabb2 {
     pub max_y: f32,
 }
 
+/// A turned box: its centre and two half edges.
+#[derive(Clone, Copy, Debug)]
+#[repr(C)]
+pub struct Obb2(pub [f32; 6]);
+
+/// Four corners, each joined to the next by an edge.
+#[derive(Clone, Copy, Debug)]
+#[repr(C)]
+pub struct Corners(pub [Vec2; 4]);
+
 /// A 3 by 3 matrix in column-major order.
 #[derive(Clone, Copy, Debug)]
 #[repr(C)]

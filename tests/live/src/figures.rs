@@ -42,7 +42,9 @@ pub fn check() -> Result<usize, String> {
         let rust = rust_reply(request).ok_or(format!("{request}: no answer of the Rust"))?;
         let ours = reply(request.as_bytes());
         if rust != *answer || ours != *answer {
-            return Err(format!("{request}\n  document 01: {answer}\n  library: {ours}\n  Rust:    {rust}"));
+            return Err(format!(
+                "{request}\n  document 01: {answer}\n  library: {ours}\n  Rust:    {rust}"
+            ));
         }
     }
     Ok(figures.len())

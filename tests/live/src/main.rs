@@ -2,6 +2,7 @@
 
 mod all;
 mod compare;
+mod cover;
 mod figures;
 mod inputs;
 mod judge;
@@ -18,6 +19,7 @@ use std::process::ExitCode;
 const USAGE: &str = "usage: live MODE [--seed S] [--count N] [--only PREFIX]
   compare  random inputs for each routine: the library against the Rust
   all      all 4294967296 inputs of each routine of one float: the library against the Rust
+  cover    the tiles listed against their definition, by brute force on small sheets
   vectors  print requests with the Rust's answers
   tally    count the kinds of the Rust's answers, a check on the inputs";
 
@@ -30,6 +32,7 @@ fn main() -> ExitCode {
     let mode: Mode = match words.next().as_deref() {
         Some("compare") => compare::run,
         Some("all") => all::run,
+        Some("cover") => cover::run,
         Some("vectors") => vectors::run,
         Some("tally") => tally::run,
         _ => |_| Err(USAGE.to_string()),

@@ -29,8 +29,10 @@ fn print(pair: &Pair, seed: u64, count: usize) -> Result<(), String> {
         let args = inputs.next_special(i);
         let request = pair.request(args);
         let answer = pair.row.answer(args).ok_or(format!("{request}: the Rust panicked"))?;
-        if printed.insert(request.clone()) {
-            println!("{request} = {answer}");
+        let row = format!("{request} = {answer}");
+        // A long list says no more than a short one, and a row should fit a screen.
+        if row.len() < 300 && printed.insert(request) {
+            println!("{row}");
         }
     }
     Ok(())

@@ -1,6 +1,7 @@
 //! Upright boxes of the plane.
 
 use super::{Routine, routine};
+use crate::lend::lend;
 use bagnoszyk::aabb2;
 
 pub const ROUTINES: &[Routine] = &[
@@ -37,4 +38,8 @@ pub const ROUTINES: &[Routine] = &[
     routine("aabb2.sdf", "ffffff", |a| aabb2::sdf(a.aabb2(0), a.point(4)).into()),
     routine("aabb2.scale", "fffff", |a| aabb2::scale(a.aabb2(0), a.f(4)).into()),
     routine("aabb2.translate", "ffffff", |a| aabb2::translate(a.aabb2(0), a.point(4)).into()),
+    routine("aabb2.overlapping_tiles", "ffffuuuu", |a| {
+        let [size, width, height] = [a.u(0) as usize, a.u(1) as usize, a.u(2) as usize];
+        lend(a.u(3), |list| aabb2::overlapping_tiles(a.aabb2(0), size, width, height, list))
+    }),
 ];

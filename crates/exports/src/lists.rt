@@ -1,0 +1,22 @@
+// Routines that write to a lent list.
+use crate::answers::CountAnswer;
+use types::Aabb2;
+ghost use mathlib.Core.Path.{_≡_};
+ghost use lib.ListN.{length};
+ghost use Rattle.exports.specs.Answers.{ofListed};
+ghost use Rattle.tiles.specs.Tiles.{tilesOf};
+ghost use Rattle.tiles.specs.Answer.{sheet, overlappingTilesOf, leftOf};
+
+#[no_mangle]
+pub extern "C" fn bgz_aabb2_overlapping_tiles(
+    b: Aabb2,
+    size: usize,
+    shape_width: usize,
+    shape_height: usize,
+    out: &mut [u32],
+) -> CountAnswer
+    ensures answers { λ r. ⌜ r ≡ ofListed (overlappingTilesOf (sheet size «shape_width» «shape_height») b (length (now (out .entry)))) ⌝ }
+    ensures leaves { λ r. ⌜ now (out .exit) ≡ leftOf (tilesOf (sheet size «shape_width» «shape_height») b) (now (out .entry)) (overlappingTilesOf (sheet size «shape_width» «shape_height») b (length (now (out .entry)))) ⌝ }
+{
+    crate::answers::listed(tiles::overlapping_tiles(b, size, shape_width, shape_height, out))
+}

@@ -1,0 +1,45 @@
+-- `obb2::is_intersect_aabb2` meets its contract: the place is four exactly if no axis separates. Assumes nothing.
+use borrow.Author.Needs.{needs}
+use Rattle.obb2.specs.Intersect.{isIntersectAabb2Of}
+use Rattle.obb2.specs.Axes.{meets}
+use Rattle.obb2.proofs.First.{first-none}
+use Rattle.obb2.proofs.intersect.is_intersect_aabb2.Statement.{statement}
+use Rattle.obb2.proofs.intersect.is_intersect_aabb2.Tie as tie
+
+across-requires : tie.Need-across-requires
+across-requires c κs = search needs
+
+across-requires-2 : tie.Need-across-requires-2
+across-requires-2 c κs = search needs
+
+corners-requires : tie.Need-corners-requires
+corners-requires c κs = search needs
+
+upright-corners-requires : tie.Need-upright-corners-requires
+upright-corners-requires c κs = search needs
+
+first-separating-requires : tie.Need-first-separating-requires
+first-separating-requires c κs = search needs
+
+returns : tie.Need-returns
+unfolding isIntersectAabb2Of meets
+returns c =
+    rw (
+      c .first-separating .ensures,
+      c .before .upright-corners .ensures,
+      c .before .before .corners .ensures,
+      c .before .before .before .across2 .ensures,
+      c .before .before .before .before .across .ensures,
+    )
+    (first-none _ _)
+
+pub is-intersect-aabb2-spec : {M : Type 1} → statement M
+is-intersect-aabb2-spec =
+    tie.close
+    (tie.spec
+    across-requires
+    across-requires-2
+    corners-requires
+    upright-corners-requires
+    first-separating-requires
+    returns)

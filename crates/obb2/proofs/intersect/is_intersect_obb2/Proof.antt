@@ -1,0 +1,55 @@
+-- `obb2::is_intersect_obb2` meets its contract: the place is four exactly if no axis separates. Assumes nothing.
+use borrow.Author.Needs.{needs}
+use Rattle.obb2.specs.Intersect.{isIntersectObb2Of}
+use Rattle.obb2.specs.Axes.{meets}
+use Rattle.obb2.proofs.First.{first-none}
+use Rattle.obb2.proofs.intersect.is_intersect_obb2.Statement.{statement}
+use Rattle.obb2.proofs.intersect.is_intersect_obb2.Tie as tie
+
+across-requires : tie.Need-across-requires
+across-requires c κs = search needs
+
+across-requires-2 : tie.Need-across-requires-2
+across-requires-2 c κs = search needs
+
+across-requires-3 : tie.Need-across-requires-3
+across-requires-3 c κs = search needs
+
+across-requires-4 : tie.Need-across-requires-4
+across-requires-4 c κs = search needs
+
+corners-requires : tie.Need-corners-requires
+corners-requires c κs = search needs
+
+corners-requires-2 : tie.Need-corners-requires-2
+corners-requires-2 c κs = search needs
+
+first-separating-requires : tie.Need-first-separating-requires
+first-separating-requires c κs = search needs
+
+returns : tie.Need-returns
+unfolding isIntersectObb2Of meets
+returns c =
+    rw (
+      c .first-separating .ensures,
+      c .before .corners2 .ensures,
+      c .before .before .corners .ensures,
+      c .before .before .before .across4 .ensures,
+      c .before .before .before .before .across3 .ensures,
+      c .before .before .before .before .before .across2 .ensures,
+      c .before .before .before .before .before .before .across .ensures,
+    )
+    (first-none _ _)
+
+pub is-intersect-obb2-spec : {M : Type 1} → statement M
+is-intersect-obb2-spec =
+    tie.close
+    (tie.spec
+    across-requires
+    across-requires-2
+    across-requires-3
+    across-requires-4
+    corners-requires
+    corners-requires-2
+    first-separating-requires
+    returns)

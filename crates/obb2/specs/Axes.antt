@@ -1,0 +1,50 @@
+-- Gottschalk, Lin and Manocha's separating axes, over lists of corners and of axes and for any dot product, so in any dimension.
+-- Where they compare the centres' distance with radii, the folded ranges of the corners' rounded projections decide, as in the Rust.
+-- Definitions only.
+use mathlib.Core.Bool.{Bool, false, not, cond, _||_}
+use mathlib.Core.List.{List, [], _∷_, map}
+use Prim.Native.Nat.{ℕ, suc}
+use lib.Ieee.{Float, lt}
+use Rattle.types.specs.declared.shape.Range.{Range}
+use Rattle.float.specs.Values.{lesserOf, greaterOf}
+use Rattle.float.specs.Folds.{leastOf, greatestOf}
+
+-- ---- ranges
+
+-- (+infinity, -infinity) of NaN only
+abbrev pub rangeOf : List Float → Range
+rangeOf xs = record { low = leastOf xs; high = greatestOf xs }
+
+-- one range's maximum is strictly below the other's minimum: equal ends overlap
+unfoldable pub apartOf : Range → Range → Bool
+apartOf a b = lt (a .high) (b .low) || lt (b .high) (a .low)
+
+-- x folded into a range whose ends are numbers
+abbrev pub widenedOf : Range → Float → Range
+widenedOf r x = record { low = lesserOf (r .low) x; high = greaterOf (r .high) x }
+
+-- ---- searching a list
+
+module _ {A : Type 0} (f : A → Bool) where
+  -- f holds of some element
+  unfoldable pub some : List A → Bool
+  some [] = false
+  some (x ∷ xs) = f x || some xs
+
+  -- the place, from 0, of the first of which it does; the length where there is none
+  unfoldable pub firstOf : List A → ℕ
+  firstOf [] = 0
+  firstOf (x ∷ xs) = cond (f x) 0 (suc (firstOf xs))
+
+-- ---- axes
+
+module _ {P : Type 0} (dot : P → P → Float) where
+  abbrev pub projections : List P → P → List Float
+  projections ps axis = map (λ p. dot p axis) ps
+
+  unfoldable pub separates : List P → List P → P → Bool
+  separates ps qs axis = apartOf (rangeOf (projections ps axis)) (rangeOf (projections qs axis))
+
+  -- no exactly if some axis separates the corners
+  unfoldable pub meets : List P → List P → List P → Bool
+  meets ps qs axes = not (some (separates ps qs) axes)

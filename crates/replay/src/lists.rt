@@ -1,0 +1,94 @@
+// Routines that write to a lent list. The list is filled with a pattern beforehand, and what should be untouched is looked at.
+use crate::answer::put_refused;
+use crate::request::asks;
+use crate::request::box_at;
+use crate::request::number_at;
+use types::Listed;
+
+// The longest list that is lent; a stored row has room for no more.
+const MOST: usize = 4096;
+
+// What stands in a lent list beforehand. No routine enters it: it is above every pixel and every tile.
+const PATTERN: u32 = 4294967295;
+
+pub fn put_answer(k: usize, request: &[u8], out: &mut [u8]) -> usize {
+    match k {
+        0 => overlapping_tiles(request, out),
+        _ => 0,
+    }
+}
+
+// Whether each entry from n on still has the pattern.
+fn untouched(list: &[u32], n: usize) -> bool {
+    let mut i = n;
+    while i < list.len() {
+        if list[i] != PATTERN {
+            return false;
+        }
+        i += 1;
+    }
+    true
+}
+
+fn wide(x: u32) -> usize {
+    x as usize
+}
+
+// Entries, each after a space.
+fn put_entries(out: &mut [u8], at: usize, entries: &[u32]) -> usize {
+    let mut to = at;
+    let mut i = 0;
+    while i < entries.len() {
+        let a = text::put_byte(out, to, b' ');
+        to = text::put_decimal(out, a, wide(entries[i]));
+        i += 1;
+    }
+    to
+}
+
+fn put_damaged(out: &mut [u8]) -> usize {
+    text::put_text(out, 0, b"damaged")
+}
+
+// The count and the entries, or the refusal; `damaged` where an entry that should be untouched was touched.
+fn put_list(out: &mut [u8], list: &[u32], answer: Listed) -> usize {
+    match answer {
+        Listed::Count(n) => {
+            if list.len() < n {
+                return put_damaged(out);
+            }
+            if !untouched(list, n) {
+                return put_damaged(out);
+            }
+            let a = text::put_decimal(out, 0, n);
+            put_entries(out, a, &list[0..n])
+        }
+        Listed::Refused(number) => {
+            if !untouched(list, 0) {
+                return put_damaged(out);
+            }
+            put_refused(out, number)
+        }
+    }
+}
+
+fn overlapping_tiles(request: &[u8], out: &mut [u8]) -> usize {
+    if asks(request, b"aabb2.overlapping_tiles ffffuuuu") {
+        let room = number_at(request, 7);
+        if MOST < room {
+            return 0;
+        }
+        let mut lent = [PATTERN; 4096];
+        let list = &mut lent[0..room];
+        let answer = tiles::overlapping_tiles(
+            box_at(request, 0),
+            number_at(request, 4),
+            number_at(request, 5),
+            number_at(request, 6),
+            list,
+        );
+        put_list(out, list, answer)
+    } else {
+        0
+    }
+}

@@ -1,0 +1,7 @@
+pub mod Sheet
+pub mod Cover
+pub mod Tiles
+pub mod Answer
+pub mod Promise
+pub mod Rust
+pub mod Figures
