@@ -16,12 +16,16 @@ use Rattle.types.specs.declared.answer.Pixels.the-variants as pixels
 use Rattle.aabb.specs.Clip.{clipOf, rayOf}
 use Rattle.range.specs.Values.{intersectionLengthOf}
 use Rattle.aabb2.specs.Raster.{rasterizeOf}
+use Rattle.pixels.specs.Figures as strokes
+use Rattle.tiles.specs.Figures as tiles
 
 pub data Row : Type 0 where
   line : Aabb2 → Vec2 → Vec2 → Interval → Row
   ray : Aabb2 → Vec2 → Vec2 → Interval → Row
   overlap : Range → Range → Extent → Row
   raster : Aabb2 → ℕ → ℕ → Pixels → Row
+  tile : tiles.TileRow → Row
+  stroke : strokes.Row → Row
 
 -- ---- equal answers: the same number, +0 equal to -0, and any NaN equal to any NaN
 
@@ -58,6 +62,8 @@ right (line b p d answer) = sameInterval (clipOf b p d) answer
 right (ray b p d answer) = sameInterval (rayOf (clipOf b p d)) answer
 right (overlap a b answer) = sameExtent (intersectionLengthOf a b) answer
 right (raster b width height answer) = samePixels (rasterizeOf b width height) answer
+right (tile r) = tiles.right r
+right (stroke r) = strokes.right r
 
 unfoldable pub allRight : List Row → Bool
 allRight [] = true

@@ -1,5 +1,5 @@
 -- The starred rows of document 01's table, in its order. Definitions only.
-use mathlib.Core.List.{List, [], _∷_}
+use mathlib.Core.List.{List, [], _∷_, _++_, map}
 use Prim.Native.Nat.{suc}
 use mathlib.Core.Bool.{true, false}
 use lib.IntN.{ℤ, pos, negsuc}
@@ -10,7 +10,9 @@ use Rattle.types.specs.declared.shape.Aabb2.{Aabb2}
 use Rattle.types.specs.declared.answer.Interval.the-variants.{Miss, Hit}
 use Rattle.types.specs.declared.answer.Extent.the-variants as extent
 use Rattle.types.specs.declared.answer.Pixels.the-variants as pixels
-use Rattle.figures.specs.Rows.{Row, line, ray, overlap, raster}
+use Rattle.pixels.specs.Figures.{starredStrokes}
+use Rattle.tiles.specs.Figures.{starredTiles}
+use Rattle.figures.specs.Rows.{Row, line, ray, overlap, raster, tile, stroke}
 
 -- half of a whole number, as an f32: `h (pos 5)` is 2.5
 unfoldable pub h : ℤ → Float
@@ -46,4 +48,4 @@ starred =
     ∷ overlap (from (pos 0) (pos 2)) (from (pos 2) (pos 3)) extent.None
     ∷ overlap (from (pos 0) (pos 2)) (from (pos 1) (pos 3)) (extent.Some (i (pos 1)))
     ∷ raster (box (h (pos 1)) (h (pos 1)) (h (pos 5)) (h (pos 3))) 4 4 (pixels.Some 0 0 2 1)
-    ∷ []
+    ∷ (map tile starredTiles ++ map stroke starredStrokes)

@@ -3,6 +3,7 @@ use crate::answer::put_refused;
 use crate::request::asks;
 use crate::request::box_at;
 use crate::request::number_at;
+use crate::request::point_at;
 use types::Listed;
 
 // The longest list that is lent; a stored row has room for no more.
@@ -13,7 +14,8 @@ const PATTERN: u32 = 4294967295;
 
 pub fn put_answer(k: usize, request: &[u8], out: &mut [u8]) -> usize {
     match k {
-        0 => overlapping_tiles(request, out),
+        0 => overlapping_pixels_dda(request, out),
+        1 => overlapping_tiles(request, out),
         _ => 0,
     }
 }
@@ -69,6 +71,27 @@ fn put_list(out: &mut [u8], list: &[u32], answer: Listed) -> usize {
             }
             put_refused(out, number)
         }
+    }
+}
+
+fn overlapping_pixels_dda(request: &[u8], out: &mut [u8]) -> usize {
+    if asks(request, b"edge2.overlapping_pixels_dda uuffffu") {
+        let room = number_at(request, 6);
+        if MOST < room {
+            return 0;
+        }
+        let mut lent = [PATTERN; 4096];
+        let list = &mut lent[0..room];
+        let answer = pixels::overlapping_pixels_dda(
+            number_at(request, 0),
+            number_at(request, 1),
+            point_at(request, 2),
+            point_at(request, 4),
+            list,
+        );
+        put_list(out, list, answer)
+    } else {
+        0
     }
 }
 

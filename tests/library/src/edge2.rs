@@ -38,6 +38,16 @@ mod raw {
 
         #[link_name = "bgz_edge2_ink"]
         pub safe fn ink(s: Vec2, e: Vec2, b: Aabb2) -> FloatAnswer;
+
+        #[link_name = "bgz_edge2_overlapping_pixels_dda"]
+        pub fn overlapping_pixels_dda(
+            width: usize,
+            height: usize,
+            p0: Vec2,
+            p1: Vec2,
+            list: *mut u32,
+            room: usize,
+        ) -> CountAnswer;
     }
 }
 
@@ -47,4 +57,17 @@ pub fn intersection_length_against_aabb2(s: Vec2, e: Vec2, b: Aabb2) -> Result<f
 
 pub fn ink(s: Vec2, e: Vec2, b: Aabb2) -> Result<f32, u32> {
     raw::ink(s, e, b).result()
+}
+
+/// Writes the pixels to the list's first entries and answers how many there are; a refusal leaves the list as it was.
+pub fn overlapping_pixels_dda(
+    width: usize,
+    height: usize,
+    p0: Vec2,
+    p1: Vec2,
+    list: &mut [u32],
+) -> Result<usize, u32> {
+    let (start, room) = (list.as_mut_ptr(), list.len());
+    // The list is lent for the call alone, by its start and its length.
+    unsafe { raw::overlapping_pixels_dda(width, height, p0, p1, start, room) }.result()
 }

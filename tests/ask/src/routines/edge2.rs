@@ -1,6 +1,7 @@
 //! Edges.
 
 use super::{Routine, routine};
+use crate::lend::lend;
 use bagnoszyk::edge2;
 
 pub const ROUTINES: &[Routine] = &[
@@ -30,4 +31,11 @@ pub const ROUTINES: &[Routine] = &[
         edge2::ratio_from_position(a.point(0), a.point(2), a.point(4)).into()
     }),
     routine("edge2.ink", "ffffffff", |a| edge2::ink(a.point(0), a.point(2), a.aabb2(4)).into()),
+    routine("edge2.overlapping_pixels_dda", "uuffffu", |a| {
+        let [width, height] = [a.u(0) as usize, a.u(1) as usize];
+        let call = |list: &mut [u32]| {
+            edge2::overlapping_pixels_dda(width, height, a.point(0), a.point(2), list)
+        };
+        lend(a.u(2), call)
+    }),
 ];

@@ -1,0 +1,5 @@
+pub mod Casts
+pub mod Walking
+pub mod Counting
+pub mod Writing
+pub mod Answers

@@ -1,0 +1,110 @@
+-- `pixels::overlapping_pixels_dda` meets its contract: each refusal by the tests that led there, and else what the walk answers. Assumes nothing.
+use mathlib.Core.Path.{_≡_, refl, sym, ap, _∙_}
+use mathlib.Core.Bool.{true, false}
+use borrow.Author.Needs.{needs}
+use borrow.Author.Tests.{not-true, not-false}
+use lib.Ieee.{Float}
+use Rattle.pixels.specs.Walk.{axisOf}
+use Rattle.pixels.specs.Answer.{sidesTooLarge, endsFit, sameEnds, overlappingPixelsDdaOf, written}
+use Rattle.pixels.specs.Accepted.{AreFloats, Accepted, accepted}
+use Rattle.pixels.proofs.Answers.{Made, made-drawn, made-ends, made-listing}
+use Rattle.pixels.proofs.walk.overlapping_pixels_dda.Statement.{statement}
+use Rattle.pixels.proofs.walk.overlapping_pixels_dda.Tie as tie
+
+-- the coordinates are f32, as parameters of that type are
+floats-at : (c : tie.Start) → AreFloats (c .args .p0) (c .args .p1)
+floats-at c =
+    let p = c .good .1 .1 .0 .1 .1 in
+    let q = c .good .1 .1 .1 .0 .1 .1 in
+    record { x0 = p .0 .1; y0 = p .1 .0 .1; x1 = q .0 .1; y1 = q .1 .0 .1 }
+
+-- what is known past each test
+sides : (c : tie.Else1) → let s = c .before .before .before .args in sidesTooLarge (s .width) (s .height) ≡ false
+sides c = sym (c .before .sides-too-large .ensures) ∙ c .if1 .left
+
+fit : (c : tie.Else2) → let s = c .before .before .before .before .before .args in endsFit (s .p0) (s .p1) ≡ true
+fit c = sym (c .before .ends-fit .ensures) ∙ not-false _ (c .if2 .left)
+
+differ : (c : tie.Else3) → let s = c .before .before .before .before .before .before .before .args in sameEnds (s .p0) (s .p1) ≡ false
+differ c = sym (c .before .same-ends .ensures) ∙ c .if3 .left
+
+accepted-at : (c : tie.Else3) → let s = c .before .before .before .before .before .before .before .args in Accepted (s .p0) (s .p1)
+accepted-at c = accepted (floats-at (c .before .before .before .before .before .before .before)) (fit (c .before .before)) (differ c)
+
+-- the two axes
+made :
+    (c : tie.After-axis-of2) →
+    let s = c .before .before .before .before .before .before .before .before .before .before .args in
+    Made (s .p0) (s .p1) (c .before .axis-of .result) (c .axis-of2 .result)
+made c =
+    let s = c .before .before .before .before .before .before .before .before .before .before .args in
+    let e = c .before .before .step-of .ensures in
+    record {
+      a-is = c .before .axis-of .ensures ∙ ap (λ (z : Float). axisOf z (s .p0 .x) (s .p1 .x)) e;
+      b-is = c .axis-of2 .ensures ∙ ap (λ (z : Float). axisOf z (s .p0 .y) (s .p1 .y)) e;
+    }
+
+sides-too-large-requires : tie.Need-sides-too-large-requires
+sides-too-large-requires c κs = search needs
+
+returns : tie.Need-returns
+unfolding overlappingPixelsDdaOf written
+returns c = rw (← c .before .sides-too-large .ensures, c .if1 .taken) (refl, refl)
+
+ends-fit-requires : tie.Need-ends-fit-requires
+ends-fit-requires c κs = search needs
+
+returns-2 : tie.Need-returns-2
+unfolding overlappingPixelsDdaOf written
+returns-2 c = rw (sides (c .before .before), sym (c .before .ends-fit .ensures) ∙ not-true _ (c .if2 .taken)) (refl, refl)
+
+same-ends-requires : tie.Need-same-ends-requires
+same-ends-requires c κs = search needs
+
+returns-3 : tie.Need-returns-3
+unfolding overlappingPixelsDdaOf written
+returns-3 c = rw (sides (c .before .before .before .before), fit (c .before .before), sym (c .before .same-ends .ensures) ∙ c .if3 .taken) (refl, refl)
+
+step-of-requires : tie.Need-step-of-requires
+step-of-requires c κs = search needs
+
+axis-of-requires : tie.Need-axis-of-requires
+axis-of-requires c κs = search needs
+
+axis-of-requires-2 : tie.Need-axis-of-requires-2
+axis-of-requires-2 c κs = search needs
+
+fill-requires : tie.Need-fill-requires
+fill-requires c κs =
+    let v = c .before .before .before .before in
+    let m = made (c .before) in
+    (made-drawn m (accepted-at v) (sides (v .before .before .before .before)), made-ends m (accepted-at v))
+
+same-length : tie.Need-same-length
+same-length c = search needs
+
+returns-4 : tie.Need-returns-4
+unfolding overlappingPixelsDdaOf
+returns-4 c =
+    let v = c .before .before .before .before .before .before .before in
+    let s = v .before .before .before .before .before .before .before .args in
+    let f = c .before .before .fill in
+    rw (sides (v .before .before .before .before), fit (v .before .before), differ v)
+    (made-listing (made (c .before .before .before .before)) (s .width) (s .height) (s .list .now) (f .result) (f .last .0) (f .ensures))
+
+pub overlapping-pixels-dda-spec : {M : Type 1} → statement M
+overlapping-pixels-dda-spec =
+    tie.close
+    (tie.spec
+    sides-too-large-requires
+    returns
+    ends-fit-requires
+    returns-2
+    same-ends-requires
+    returns-3
+    step-of-requires
+    axis-of-requires
+    axis-of-requires-2
+    fill-requires
+    same-length
+    returns-4)

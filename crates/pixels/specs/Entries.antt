@@ -1,0 +1,54 @@
+-- The entries of a stroke: the positions inside the image, numbered, and the closing entry. Definitions only.
+use mathlib.Core.Bool.{Bool, true, false, _&&_}
+use mathlib.Core.List.{List, [], _∷_, _++_}
+use Prim.Native.Nat.{ℕ, _+_, _*_}
+use lib.IntN.{pos}
+use lib.Ieee.{Float, binary32, lt, le, ofInt, toUnsigned}
+use Rattle.types.specs.declared.shape.Vec2.{Vec2}
+use Rattle.float.specs.Rounded.{+0}
+use Rattle.pixels.specs.declared.axis.Axis.{Axis}
+use Rattle.pixels.specs.Walk.{position, exit, positions, alongX, alongY}
+
+-- ---- inside the image
+
+-- a coordinate on a side of this length: at least 0 and below it
+unfoldable pub onSide : Float → Float → Bool
+onSide side x = le +0 x && lt x side
+
+-- in an image whose sides are the floats `wide` and `high`
+unfoldable pub inSides : Float → Float → Vec2 → Bool
+inSides wide high p = onSide wide (p .x) && onSide high (p .y)
+
+-- in an image w by h
+abbrev pub onImage : ℕ → ℕ → Vec2 → Bool
+onImage w h p = inSides (ofInt binary32 (pos w)) (ofInt binary32 (pos h)) p
+
+-- ---- numbered
+
+-- row × width + column, each coordinate cut to an integer, a negative one to 0
+unfoldable pub number : ℕ → Vec2 → ℕ
+number w p = toUnsigned 64 (p .y) * w + toUnsigned 64 (p .x)
+
+abbrev pub keepIf : {A : Type 0} → Bool → A → List A → List A
+keepIf true x l = x ∷ l
+keepIf false x l = l
+
+unfoldable pub kept : {A : Type 0} → (A → Bool) → List A → List A
+kept t [] = []
+kept t (x ∷ l) = keepIf (t x) x (kept t l)
+
+unfoldable pub each : {A B : Type 0} → (A → B) → List A → List B
+each f [] = []
+each f (x ∷ l) = f x ∷ each f l
+
+-- the pixels of those positions that lie in the image, in the walk's order
+unfoldable pub pixels : ℕ → ℕ → List Vec2 → List ℕ
+pixels w h ps = each (number w) (kept (onImage w h) ps)
+
+-- and last the closing entry, of the position at which the walk left; it may be no pixel of the image
+unfoldable pub entries : ℕ → ℕ → Axis → Axis → List ℕ
+entries w h a b = pixels w h (positions a b) ++ (number w (position a b (exit a b)) ∷ [])
+
+-- the entries of the stroke from p to q
+unfoldable pub strokeOf : ℕ → ℕ → Vec2 → Vec2 → List ℕ
+strokeOf w h p q = entries w h (alongX p q) (alongY p q)

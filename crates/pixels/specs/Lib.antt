@@ -1,0 +1,14 @@
+pub mod Walk
+pub mod Entries
+pub mod Answer
+pub mod Round
+pub mod Size
+pub mod Step
+pub mod Leaves
+pub mod Ends
+pub mod Apart
+pub mod Slopes
+pub mod Accepted
+pub mod Lists
+pub mod Figures
+pub mod Post

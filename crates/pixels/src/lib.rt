@@ -1,0 +1,7 @@
+// The pixels that a stroke passes, by a walk from its first end in steps of at most one pixel.
+mod axis;
+mod check;
+mod image;
+mod walk;
+
+pub use walk::overlapping_pixels_dda;
