@@ -23,10 +23,12 @@ same-length c = search needs
 
 returns : tie.Need-returns
 returns c =
-    let start = c .before .before .before .before .before .before .before .before .before .before .before in
-    let test = c .before .before .before .before .before .before .before .before .before .if1 in
-    same (ap (λ (k : ℕ). 45 ∷ decimal k) (c .before .before .before .size-of .ensures) ∙ minus-text (start .args .n) (start .fits .n) (test .taken))
-    (one (c .before .before .before .before .before .before .before .put-byte .ensures) (c .before .before .put-decimal .ensures))
+    let digits = c .before .before in
+    let sign = digits .before .before .before .before .before in
+    let test = sign .before .before in
+    let start = test .before .before in
+    let text = ap (λ (k : ℕ). 45 ∷ decimal k) (digits .before .size-of .ensures) ∙ minus-text (start .args .n) (start .fits .n) (test .if1 .taken) in
+    same text (one (sign .put-byte .ensures) (digits .put-decimal .ensures))
 
 size-of-requires-2 : tie.Need-size-of-requires-2
 size-of-requires-2 c κs = search needs
@@ -39,10 +41,11 @@ same-length-2 c = search needs
 
 returns-2 : tie.Need-returns-2
 returns-2 c =
-    let start = c .before .before .before .before .before .before .before in
-    let test = c .before .before .before .before .before .if1 in
-    same (ap decimal (c .before .before .before .size-of2 .ensures) ∙ plain-text (start .args .n) (start .fits .n) (test .left))
-    (c .before .before .put-decimal2 .ensures)
+    let digits = c .before .before in
+    let test = digits .before .before .before in
+    let start = test .before .before in
+    let text = ap decimal (digits .before .size-of2 .ensures) ∙ plain-text (start .args .n) (start .fits .n) (test .if1 .left) in
+    same text (digits .put-decimal2 .ensures)
 
 pub put-signed-spec : {M : Type 1} → statement M
 put-signed-spec =

@@ -1,0 +1,85 @@
+-- `hatch::header::head_of` meets its contract: each answer is what `headOf` picks by the tests that led there. Assumes nothing.
+use mathlib.Core.Path.{_≡_, sym, _∙_}
+use mathlib.Core.Bool.{true}
+use native.Mathlib.Omega.{arith}
+use denote.Ref.{now}
+use borrow.Author.Needs.{needs}
+use borrow.Author.Tests.{not-true, not-false}
+use Rattle.hatch.specs.Bytes.{startsWith}
+use Rattle.hatch.specs.Format.{hsl, rows, versionedOf}
+use Rattle.hatch.specs.Table.{listed}
+use Rattle.hatch.proofs.Opening.{other-mark, too-short, by-layout}
+use Rattle.hatch.proofs.header.head_of.Statement.{statement}
+use Rattle.hatch.proofs.header.head_of.Tie as tie
+
+slice-aggregate-starts-with : tie.Need-slice-aggregate-starts-with
+slice-aggregate-starts-with c = search needs
+
+starts-with-requires : tie.Need-starts-with-requires
+starts-with-requires c κs = search needs
+
+returns : tie.Need-returns
+returns c = other-mark hsl rows _ (sym (c .before .starts-with .ensures) ∙ not-true _ (c .if1 .taken))
+
+-- the mark is there
+marked : (c : tie.Else1) → startsWith hsl (now (c .before .before .before .before .args .bytes)) ≡ true
+marked c = sym (c .before .starts-with .ensures) ∙ not-false _ (c .if1 .left)
+
+returns-2 : tie.Need-returns-2
+returns-2 c = too-short hsl rows _ (marked (c .before)) (c .if2 .taken)
+
+half-requires : tie.Need-half-requires
+half-requires c κs = search needs
+
+half-requires-2 : tie.Need-half-requires-2
+half-requires-2 c κs = search needs
+
+layout-of-requires : tie.Need-layout-of-requires
+layout-of-requires c κs = search needs
+
+enum-told : tie.Need-enum-told
+enum-told c = search needs
+
+enum-known-width : tie.Need-enum-known-width
+enum-known-width c = search needs
+
+sized-requires : tie.Need-sized-requires
+sized-requires c κs =
+    let t = c .before in
+    let r = t .before .before in
+    (omega (arith, listed _ _ _ (sym (r .layout-of .ensures) ∙ t .width .given .1) .is-width), r .before .half2 .ensures .1)
+
+returns-3 : tie.Need-returns-3
+unfolding versionedOf
+returns-3 c =
+    let r = c .before .before in
+    let h = r .before in
+    let t = h .before .before in
+    by-layout hsl rows _ (marked (t .before)) (t .if2 .left) _ _ _ (h .before .half .ensures .0) (h .half2 .ensures .0) (sym (c .enum-told .given .1) ∙ r .layout-of .ensures)
+
+returns-4 : tie.Need-returns-4
+unfolding versionedOf
+returns-4 c =
+    let l = c .before .before in
+    let r = l .before .before in
+    let h = r .before in
+    let t = h .before .before in
+    c .sized .ensures
+    ∙ by-layout hsl rows _ (marked (t .before)) (t .if2 .left) _ _ _ (h .before .half .ensures .0) (h .half2 .ensures .0) (sym (l .width .given .1) ∙ r .layout-of .ensures)
+
+pub head-of-spec : {M : Type 1} → statement M
+head-of-spec =
+    tie.close
+    (tie.spec
+    slice-aggregate-starts-with
+    starts-with-requires
+    returns
+    returns-2
+    half-requires
+    half-requires-2
+    layout-of-requires
+    enum-told
+    enum-known-width
+    sized-requires
+    returns-3
+    returns-4)

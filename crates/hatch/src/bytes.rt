@@ -1,0 +1,48 @@
+// Numbers and marks in a list of bytes, little-endian.
+ghost use mathlib.Core.Path.{_≡_};
+ghost use Prim.Native.Nat.{_+_, _<_, _≤_};
+ghost use lib.ListN.{length};
+ghost use Rattle.hatch.specs.Bytes.{halfAt, wordAt, startsWith};
+
+fn wide(x: u8) -> u32
+    ensures { λ r. ⌜ (r ≡ x) × (r < 256) ⌝ }
+{
+    x as u32
+}
+
+// The 16-bit number at a byte, as a usize.
+pub fn half(bytes: &[u8], at: usize) -> usize
+    requires { ⌜ at + 2 ≤ length (now bytes) ⌝ }
+    ensures { λ r. ⌜ (r ≡ halfAt (now (bytes .entry)) at) × (r < 65536) ⌝ }
+{
+    let low = wide(bytes[at]);
+    let high = wide(bytes[at + 1]);
+    (low + 256 * high) as usize
+}
+
+// The 32-bit number at a byte.
+pub fn word(bytes: &[u8], at: usize) -> u32
+    requires { ⌜ at + 4 ≤ length (now bytes) ⌝ }
+    ensures { λ r. ⌜ r ≡ wordAt (now (bytes .entry)) at ⌝ }
+{
+    wide(bytes[at])
+        + 256 * wide(bytes[at + 1])
+        + 65536 * wide(bytes[at + 2])
+        + 16777216 * wide(bytes[at + 3])
+}
+
+pub fn starts_with(bytes: &[u8], mark: &[u8]) -> bool
+    ensures { λ r. ⌜ r ≡ startsWith (now (mark .entry)) (now (bytes .entry)) ⌝ }
+{
+    let mut i = 0;
+    while i < mark.len() {
+        if i == bytes.len() {
+            return false;
+        }
+        if bytes[i] != mark[i] {
+            return false;
+        }
+        i += 1;
+    }
+    true
+}
