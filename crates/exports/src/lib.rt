@@ -8,3 +8,4 @@ mod matrices;
 mod ranges;
 mod turned;
 mod vectors;
+mod views;

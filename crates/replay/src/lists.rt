@@ -1,7 +1,9 @@
-// Routines that write to a lent list. The list is filled with a pattern beforehand, and what should be untouched is looked at.
+// Routines over a lent list. One that is written to is filled with a pattern beforehand, and what should be untouched is looked at.
+use crate::answer::put_boxed;
 use crate::answer::put_refused;
 use crate::request::asks;
 use crate::request::box_at;
+use crate::request::floats_from;
 use crate::request::number_at;
 use crate::request::point_at;
 use types::Listed;
@@ -16,6 +18,9 @@ pub fn put_answer(k: usize, request: &[u8], out: &mut [u8]) -> usize {
     match k {
         0 => overlapping_pixels_dda(request, out),
         1 => overlapping_tiles(request, out),
+        2 => count(request, out),
+        3 => from_aabbs(request, out),
+        4 => from_slice(request, out),
         _ => 0,
     }
 }
@@ -111,6 +116,39 @@ fn overlapping_tiles(request: &[u8], out: &mut [u8]) -> usize {
             list,
         );
         put_list(out, list, answer)
+    } else {
+        0
+    }
+}
+
+fn count(request: &[u8], out: &mut [u8]) -> usize {
+    if asks(request, b"aabb2.count *") {
+        let mut floats = [0.0f32; 64];
+        let n = floats_from(request, 0, &mut floats);
+        text::put_decimal(out, 0, aabb2_view::count_aabbs(&floats[0..n]))
+    } else {
+        0
+    }
+}
+
+fn from_aabbs(request: &[u8], out: &mut [u8]) -> usize {
+    if asks(request, b"aabb2.from_aabbs u*") {
+        let mut floats = [0.0f32; 64];
+        let n = floats_from(request, 1, &mut floats);
+        put_boxed(
+            out,
+            aabb2_view::from_aabbs(&floats[0..n], number_at(request, 0)),
+        )
+    } else {
+        0
+    }
+}
+
+fn from_slice(request: &[u8], out: &mut [u8]) -> usize {
+    if asks(request, b"aabb2.from_slice *") {
+        let mut floats = [0.0f32; 64];
+        let n = floats_from(request, 0, &mut floats);
+        put_boxed(out, aabb2_view::from_slice(&floats[0..n]))
     } else {
         0
     }

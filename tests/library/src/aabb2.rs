@@ -54,6 +54,15 @@ mod raw {
         #[link_name = "bgz_aabb2_nearest_point2"]
         pub safe fn nearest_point2(b: Aabb2, p: Vec2) -> PointAnswer;
 
+        #[link_name = "bgz_aabb2_count"]
+        pub fn count(all: *const f32, length: usize) -> usize;
+
+        #[link_name = "bgz_aabb2_from_aabbs"]
+        pub fn from_aabbs(all: *const f32, length: usize, index: usize) -> BoxAnswer;
+
+        #[link_name = "bgz_aabb2_from_slice"]
+        pub fn from_slice(s: *const f32, length: usize) -> BoxAnswer;
+
         #[link_name = "bgz_aabb2_overlapping_tiles"]
         pub fn overlapping_tiles(
             b: Aabb2,
@@ -84,6 +93,19 @@ pub fn transform_homogeneous(b: Aabb2, m: Mat3) -> Result<Aabb2, u32> {
 
 pub fn nearest_point2(b: Aabb2, p: Vec2) -> Result<Vec2, u32> {
     raw::nearest_point2(b, p).result()
+}
+
+/// How many whole boxes a flat list has.
+pub fn count(all: &[f32]) -> usize {
+    unsafe { raw::count(all.as_ptr(), all.len()) }
+}
+
+pub fn from_aabbs(all: &[f32], index: usize) -> Result<Aabb2, u32> {
+    unsafe { raw::from_aabbs(all.as_ptr(), all.len(), index) }.result()
+}
+
+pub fn from_slice(s: &[f32]) -> Result<Aabb2, u32> {
+    unsafe { raw::from_slice(s.as_ptr(), s.len()) }.result()
 }
 
 /// Writes the tiles to the list's first entries and answers how many there are; a refusal leaves the list as it was.

@@ -42,4 +42,7 @@ pub const ROUTINES: &[Routine] = &[
         let [size, width, height] = [a.u(0) as usize, a.u(1) as usize, a.u(2) as usize];
         lend(a.u(3), |list| aabb2::overlapping_tiles(a.aabb2(0), size, width, height, list))
     }),
+    routine("aabb2.count", "f*", |a| aabb2::count(&a.floats).into()),
+    routine("aabb2.from_aabbs", "uf*", |a| aabb2::from_aabbs(&a.floats, a.u(0) as usize).into()),
+    routine("aabb2.from_slice", "f*", |a| aabb2::from_slice(&a.floats).into()),
 ];
