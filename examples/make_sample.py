@@ -3,6 +3,7 @@
 
 The right face is hatched with lines that rise at 45 degrees, and the left one, as drawing practice has it for a neighbour, with lines that
 fall. Each rising line comes first and its falling twin, mirrored at x = 0, after it. The first and the last pair run past the corners and miss.
+crates/hatch_clip/stdin is a copy of the file.
 """
 
 import math

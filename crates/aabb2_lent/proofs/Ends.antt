@@ -46,6 +46,7 @@ module _ {M : Type 1} (𝓤 : URA M) (H : Heap 𝓤) (A : Atoms 𝓤) (mem : Mem
 
   -- the reference x to the box, the point p and the radius r
   module _ (κs : Lfts 1) (qs : Shares 1) (x : RefT Aabb2) (p : Vec2) (r : Float) where
+    -- what the call is at, machine values included
     abbrev pub at : AddPoint .Ghost
     at = ((κs, qs, tt, (x, (p, (r, tt))), (ptr-vals x, (point-laws.lowered p ∷ [], (float-vals binary32 r, tt)))), tt)
 

@@ -20,11 +20,12 @@ use denote.Triple.Entry.{Res, alive}
 use denote.Triple.Spec.{tripleOf}
 use denote.Triple.Clauses.{Ended, Clauses, Lasts, atExit, lasts, ensured, closing}
 
+-- a function's contract, from its clauses
 module _ {M : Type 1} (𝓤 : URA M) (H : Heap 𝓤) (A : Atoms 𝓤) (T : Ended) (c : Clauses 𝓤 T) where
   abbrev pub Plain : Contract 𝓤
   Plain = tripleOf 𝓤 H A (T .signature) (closing 𝓤 H A T c)
 
--- f meets the contract c of the signature T, and y is what it is called at. It asks for no token and no more than plain arguments, and ensures φ of its result r, whose machine value is u.
+-- f meets that contract, and y is what it is called at. It asks for no token and no more than plain arguments, and ensures φ of its result r, whose machine value is u.
 -- The operands are read behind one more entry, which is `emp`
 module _ {M : Type 1} {𝓤 : URA M} {H : Heap 𝓤} {A : Atoms 𝓤} {K : Type 0} {W : Given 𝓤 H A} {Γ : List (Item 𝓤)} {E : Env 𝓤 H} {C : Calls 𝓤 H} {Λ : Loops 𝓤 H} {q : Post 𝓤 H} {f : Name} {xs : List Opd} {d : Place} {rest : Body} where
   pub calls-plain : K → FmC 𝓤 H (W .laws) C → (T : Ended) (c : Clauses 𝓤 T) → Triple 𝓤 (C f) (Plain 𝓤 H A T c) → (y : Plain 𝓤 H A T c .Ghost)

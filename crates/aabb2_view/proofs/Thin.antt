@@ -9,6 +9,7 @@ use ghost.Atoms.{Atoms}
 use contract.Lifetimes.{Lfts, Shares, AllOutlive}
 use contract.Monad.{Fun}
 use types.Kit.{Given, pop, ‵, raw, _⊛_, some, later, _$_, _∵_, !, qed, move, pick, split, join, use1, check, updating, now as at-once, await, done}
+use sound.WpLaws.{WpFn-mono}
 use denote.RattleType.{RattleType, flat}
 use denote.Laws.{Is, Are, Ises, Spells, Tellss, valss, Typed, Lawful, shows}
 use denote.Signature.{Signature, typeAt, typesAt}
@@ -47,10 +48,12 @@ module _ {M : Type 1} (𝓤 : URA M) (H : Heap 𝓤) (A : Atoms 𝓤) (S : Signa
       updating ! $ await ! tt $ pick ! (λ r. split ! $ split ! $ move ! (1 ∷ []) $ peeks ! R (Is R) (shows 𝓤 H A R) r (u ∷ []) (λ is. move ! (1 ∷ 0 ∷ []) $ join ! $ join ! $
       use1 W (raw (tripleOf 𝓤 H A S c .post y u)) (via 𝓤 (ex 𝓤 Φ) (exI 𝓤 Φ r) (W .laws .⇛-intro (ex 𝓤 Φ))) $ at-once ! $ check ! (L .typed r (u ∷ []) is) $ done !))
 
-  -- so code that hands its arguments on ensures what this contract does, where it asks nothing more than the entry
+  -- so code that hands its arguments on to a function of this contract gives whatever that function does, where the contract asks nothing beside the entry
   pub thin : (W : Given 𝓤 H A) (𝓣 : Tables 𝓤 H) (g : Name) → Triple 𝓤 (𝓣 .C g) (tripleOf 𝓤 H A S c) → (y : tripleOf 𝓤 H A S c .Ghost) → ent 𝓤 (emp 𝓤) (c (y .0 .0) (y .0 .3) .requires (y .1))
-      → Lawful 𝓤 H A (typeAt (S .result) (y .0 .0)) → (P : SProp 𝓤) → ent 𝓤 P (onEntry 𝓤 H A S (y .0 .0) (y .0 .1) (y .0 .3) (y .0 .4))
-      → (e : Fn) (vs : List Val) → Hands 𝓤 H 𝓣 e vs g (tripleOf 𝓤 H A S c .args y) (typeAt (S .result) (y .0 .0) .mir) → ent 𝓤 P (WpFn 𝓤 H (𝓣 .C) (𝓣 .Λ) e vs (tripleOf 𝓤 H A S c .post y))
-  thin W 𝓣 g known y free L P asked e vs hands =
+      → Lawful 𝓤 H A (typeAt (S .result) (y .0 .0)) → (e : Fn) (vs : List Val) → Hands 𝓤 H 𝓣 e vs g (tripleOf 𝓤 H A S c .args y) (typeAt (S .result) (y .0 .0) .mir)
+      → (P : SProp 𝓤) → ent 𝓤 P (onEntry 𝓤 H A S (y .0 .0) (y .0 .1) (y .0 .3) (y .0 .4)) → (Q : Val → SProp 𝓤) → ((u : Val) → ent 𝓤 (tripleOf 𝓤 H A S c .post y u) (Q u)) → ent 𝓤 P (WpFn 𝓤 H (𝓣 .C) (𝓣 .Λ) e vs Q)
+  thin W 𝓣 g known y free L e vs hands P asked Q gives =
       let E : SProp 𝓤 = onEntry 𝓤 H A S (y .0 .0) (y .0 .1) (y .0 .3) (y .0 .4) in
-      hands P (tripleOf 𝓤 H A S c .post y) (typed W y L) (via 𝓤 E asked (via 𝓤 (tripleOf 𝓤 H A S c .pre y) (via 𝓤 (sep 𝓤 E (emp 𝓤)) (pop 𝓤 H A (raw E) []) (monoR 𝓤 E free)) (known y)))
+      via 𝓤 (WpFn 𝓤 H (𝓣 .C) (𝓣 .Λ) e vs (tripleOf 𝓤 H A S c .post y))
+      (hands P (tripleOf 𝓤 H A S c .post y) (typed W y L) (via 𝓤 E asked (via 𝓤 (tripleOf 𝓤 H A S c .pre y) (via 𝓤 (sep 𝓤 E (emp 𝓤)) (pop 𝓤 H A (raw E) []) (monoR 𝓤 E free)) (known y))))
+      (WpFn-mono 𝓤 H (W .laws) 𝓣 e vs (tripleOf 𝓤 H A S c .post y) Q gives)

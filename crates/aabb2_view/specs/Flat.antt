@@ -13,7 +13,7 @@ use Rattle.types.specs.declared.answer.Boxed.the-variants.{Some, Refused}
 abbrev pub countOf : List Float → ℕ
 countOf all = length all / 4
 
--- low corner, then high corner
+-- the box whose floats begin at a place: low corner, then high corner. Where a list ends sooner a NaN stands in, which no accepted index reaches
 abbrev pub boxFrom : List Float → ℕ → Aabb2
 boxFrom all at =
     record { «min_x» = getD all at nan; «min_y» = getD all (at + 1) nan; «max_x» = getD all (at + 2) nan; «max_y» = getD all (at + 3) nan }

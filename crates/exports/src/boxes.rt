@@ -79,6 +79,14 @@ pub extern "C" fn bgz_aabb2_add_point(b: Aabb2, p: Vec2, radius: f32) -> BoxAnsw
     crate::answers::boxed(aabb2::add_point(b, p, radius))
 }
 
+// Through a box that is lent and widened where it stands.
+#[no_mangle]
+pub extern "C" fn bgz_aabb2_add_point_lent(b: Aabb2, p: Vec2, radius: f32) -> BoxAnswer
+    ensures { λ r. ⌜ r ≡ ofBoxed (addPointOf b p radius) ⌝ }
+{
+    crate::answers::boxed(aabb2_lent::add_point_by_value(b, p, radius))
+}
+
 #[no_mangle]
 pub extern "C" fn bgz_aabb2_rasterize(b: Aabb2, width: usize, height: usize) -> PixelsAnswer
     ensures { λ r. ⌜ r ≡ ofPixels (rasterizeOf b width height) ⌝ }

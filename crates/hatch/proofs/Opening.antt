@@ -21,16 +21,18 @@ module _ (mark : List ℕ) (table : List Row) (b : List ℕ) where
   unfolding headOf
   too-short t h = rw (t, lt-ltb (length b) 7 h)
 
-  pub by-layout : startsWith mark b ≡ true → 7 ≤ length b → (l : Layout) (v n : ℕ) → v ≡ halfAt b 3 → n ≡ halfAt b 5 → l ≡ layoutOf table v
-      → versionedOf l (length b) v n ≡ headOf mark table b
+  -- l is the layout of the version v, and h what it makes of the length and the count
+  pub by-layout : startsWith mark b ≡ true → 7 ≤ length b → {v n : ℕ} {l : Layout} {h : Head} → v ≡ halfAt b 3 → n ≡ halfAt b 5 → l ≡ layoutOf table v
+      → h ≡ versionedOf l (length b) v n → h ≡ headOf mark table b
   unfolding headOf
-  by-layout t h l v n ev en el =
-      ap (λ (k : Layout). versionedOf k (length b) v n) el
+  by-layout t s {v} {n} ev en el e =
+      e
+      ∙ ap (λ (k : Layout). versionedOf k (length b) v n) el
       ∙ ap (λ (k : ℕ). versionedOf (layoutOf table k) (length b) k n) ev
       ∙ ap (versionedOf (layoutOf table (halfAt b 3)) (length b) (halfAt b 3)) en
-      ∙ sym (rw (t, le-ltb (length b) 7 h) refl)
+      ∙ sym (rw (t, le-ltb (length b) 7 s) refl)
 
--- h is the header's answer by its call, and the other is what a match found
+-- r is the answer of the call that gives the header h, and a match has found what r is
 module _ (room : ℕ) {r h : Head} (is : r ≡ h) where
   pub stays-invalid : {k : ℕ} → r ≡ Invalid k → Invalid k ≡ withRoom room h
   unfolding withRoom

@@ -26,22 +26,23 @@ unfolding upto
 map-upto f g zero = refl
 map-upto f g (suc n) = map-append f (upto g n) (g n ∷ []) ∙ ap (λ (r : List _). r ++ (f (g n) ∷ [])) (map-upto f g n)
 
-room-go : (room : ℕ) (h : Head) {v n w : ℕ} → withRoom room h ≡ Valid v n w → (h ≡ Valid v n w) × (8 * n ≤ room)
+-- a header that is valid with the list is valid, and the list has room
+valid-within : (room : ℕ) (h : Head) {v n w : ℕ} → withRoom room h ≡ Valid v n w → (h ≡ Valid v n w) × (8 * n ≤ room)
 unfolding withRoom
-room-go room (Invalid k) e = absurd (let z : _≡_ {A = ℕ} 0 1 = cc in omega arith)
-room-go room (Valid v n w) e = go (ltb room (8 * n)) refl e
+valid-within room (Invalid k) e = absurd (let z : _≡_ {A = ℕ} 0 1 = cc in omega arith)
+valid-within room (Valid v n w) e = go (ltb room (8 * n)) refl e
   where
     go : {v′ n′ w′ : ℕ} (t : Bool) → ltb room (8 * n) ≡ t → cond t (Invalid 1) (Valid v n w) ≡ Valid v′ n′ w′
         → (Valid v n w ≡ Valid v′ n′ w′) × (8 * n′ ≤ room)
     go true t e = absurd (let z : _≡_ {A = ℕ} 0 1 = cc in omega arith)
     go {n′ = n′} false t e = let m : n ≡ n′ = cc in (e, subst (λ (k : ℕ). 8 * k ≤ room) m (ltb-false room (8 * n) t))
 
--- r is the header by its call, and the other is what a match found
+-- r is the answer of the call that gives the header, and a match has found what r is
 module _ (b : List ℕ) (room : ℕ) {r : Head} (is : r ≡ withRoom room (headOf hsl rows b)) where
   -- an accepted file is whole, and the list has room for it
   pub whole : {v n w : ℕ} → r ≡ Valid v n w → Whole w n b × (8 * n ≤ room)
   whole {v} {n} {w} e =
-      let h = room-go room (headOf hsl rows b) (sym is ∙ e) in
+      let h = valid-within room (headOf hsl rows b) (sym is ∙ e) in
       let f = file hsl rows b (h .0) in
       (record { whole = f .whole; wide = omega (arith, listed v w (f .limit) (f .row) .is-width) }, h .1)
 

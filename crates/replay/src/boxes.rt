@@ -31,6 +31,7 @@ pub fn put_answer(k: usize, request: &[u8], out: &mut [u8]) -> usize {
         12 => sdf(request, out),
         13 => scale(request, out),
         14 => translate(request, out),
+        15 => add_point_lent(request, out),
         _ => 0,
     }
 }
@@ -201,6 +202,18 @@ fn translate(request: &[u8], out: &mut [u8]) -> usize {
         put_box(
             out,
             aabb2::translate(box_at(request, 0), point_at(request, 4)),
+        )
+    } else {
+        0
+    }
+}
+
+fn add_point_lent(request: &[u8], out: &mut [u8]) -> usize {
+    if asks(request, b"aabb2.add_point_lent fffffff") {
+        let radius = float_at(request, 6);
+        put_boxed(
+            out,
+            aabb2_lent::add_point_by_value(box_at(request, 0), point_at(request, 4), radius),
         )
     } else {
         0

@@ -6,6 +6,8 @@ use types::Vec2;
 ghost use mathlib.Core.Path.{_≡_};
 ghost use Prim.Native.Nat.{_+_, _*_, _≤_};
 ghost use lib.ListN.{length};
+ghost use Rattle.hatch.specs.Format.{hsl, rows};
+ghost use Rattle.hatch.specs.Decode.{decodeInto, listOf, floatOf};
 ghost use Rattle.text.specs.Page.{page, Adds};
 ghost use Rattle.report.specs.Report.{shown, boxAt, pointAt, clipAt, lineOf, linesOf, openingOf, refusalOf, Reports};
 
@@ -16,6 +18,7 @@ fn shown_bits(x: f32) -> u32
     if x == 0.0 { 0 } else { bits::to_bits(x) }
 }
 
+// The line of a record, from its place and what is left of its line.
 fn put_line(out: &mut [u8], at: usize, place: usize, t: Interval) -> usize
     ensures { λ r. ⌜ Adds (page (now (out .entry)) at) (lineOf place t) (page (now (out .exit)) r) ⌝ }
 {
@@ -67,6 +70,7 @@ fn clip_at(floats: &[f32], k: usize) -> Interval
     )
 }
 
+// The lines of all records, places from 1.
 fn put_lines(out: &mut [u8], at: usize, floats: &[f32], count: usize) -> usize
     requires { ⌜ length (now floats) ≡ 8 * count ⌝ }
     ensures { λ r. ⌜ Adds (page (now (out .entry)) at) (linesOf (now (floats .entry)) count) (page (now (out .exit)) r) ⌝ }
@@ -101,6 +105,7 @@ fn put_refusal(out: &mut [u8], number: u32) -> usize
 // Reads a hatch list into `floats`, writes the report on it at the start of `out`, and answers its length. What has no room is left out.
 pub fn report(bytes: &[u8], floats: &mut [f32], out: &mut [u8]) -> usize
     ensures { λ r. ⌜ Reports (now (bytes .entry)) (length (now (floats .entry))) (now (out .entry)) (now (out .exit)) r ⌝ }
+    ensures { λ r. ⌜ now (floats .exit) ≡ listOf floatOf (decodeInto hsl rows (length (now (floats .entry))) (now (bytes .entry))) (now (floats .entry)) ⌝ }
 {
     match hatch::read_floats(bytes, floats) {
         Read::Refused(number) => put_refusal(out, number),

@@ -45,6 +45,9 @@ mod raw {
         #[link_name = "bgz_aabb2_add_point"]
         pub safe fn add_point(b: Aabb2, p: Vec2, radius: f32) -> BoxAnswer;
 
+        #[link_name = "bgz_aabb2_add_point_lent"]
+        pub safe fn add_point_lent(b: Aabb2, p: Vec2, radius: f32) -> BoxAnswer;
+
         #[link_name = "bgz_aabb2_rasterize"]
         pub safe fn rasterize(b: Aabb2, width: usize, height: usize) -> PixelsAnswer;
 
@@ -81,6 +84,11 @@ pub fn from_point(p: Vec2, radius: f32) -> Result<Aabb2, u32> {
 
 pub fn add_point(b: Aabb2, p: Vec2, radius: f32) -> Result<Aabb2, u32> {
     raw::add_point(b, p, radius).result()
+}
+
+/// Through a box that is lent and widened where it stands.
+pub fn add_point_lent(b: Aabb2, p: Vec2, radius: f32) -> Result<Aabb2, u32> {
+    raw::add_point_lent(b, p, radius).result()
 }
 
 pub fn rasterize(b: Aabb2, width: usize, height: usize) -> Result<[usize; 4], u32> {

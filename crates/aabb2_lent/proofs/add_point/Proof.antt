@@ -1,4 +1,4 @@
--- `aabb2_lent::add_point` meets its contract, by a walk of its code. The borrow is opened, and the box is copied out for `aabb2::add_point` and for `settled`. What `settled` returns is stored, and the borrow is closed before `answered` is called.
+-- `aabb2_lent::add_point` meets its contract, by a walk of its code: the borrow is opened, the box is copied out for `aabb2::add_point` and for `settled`, what `settled` returns is stored, and the borrow is closed before `answered` is called.
 -- All that is known of the three is that each meets its contract. Assumes nothing.
 use mathlib.Core.Path.{_≡_, refl, ap, _∙_}
 use mathlib.Core.List.{[], _∷_}
@@ -61,7 +61,7 @@ use Rattle.aabb2_lent.proofs.add_point.Statement as stated
 use Rattle.aabb2_lent.proofs.add_point.Code as code
 
 module _ {M : Type 1} (𝓤 : URA M) (H : Heap 𝓤) (A : Atoms 𝓤) (mem : Memory → SProp 𝓤) (run : Routine → Fun 𝓤) where
-  -- the contracts of the three
+  -- the contracts of the three callees
   abbrev Value : Contract 𝓤
   Value = Plain 𝓤 H A value.ended (value.clauses 𝓤 H A mem run)
 
@@ -99,10 +99,12 @@ module _ {M : Type 1} (𝓤 : URA M) (H : Heap 𝓤) (A : Atoms 𝓤) (mem : Mem
         move ! (14 ∷ 15 ∷ 16 ∷ []) $ opens ! tt B {h = h} (x .ptr .0) (x .ptr .1) (λ vs. spelt ! B (Is B) (shows 𝓤 H A B) (struct.vals box.the-type box-laws.the-laws) (struct.tells box.the-type box-laws.the-laws) fullShare h vs (x .ptr .0) (x .ptr .1) $
         move ! (1 ∷ []) $ facts ! B (Is B) (shows 𝓤 H A B) h (box-laws.lowered h ∷ []) (λ h-is.
         -- [the box; the open borrow; what is known of the box, twice; _6 at 4; _5 at 6; _4 at 8; _3 at 10; _2 at 12; _1 at 14; _0 at 16]
+        -- let wider = aabb2::add_point(*b, p, radius);
         assigns ! (of-opd ! (load ! (from ! (hop ! (look ! 14 refl) (stop !))) (look-raw ! 0 refl))) (from ! (stop !)) (init ! 6 refl (box-lawful .typed h _ h-is .0)) $
         calls-plain ! fm value.ended (value.clauses 𝓤 H A mem run) known-value to-value none none (box-made, (struct.makes point.the-type point-laws.the-plain 𝓤 H A, (float-makes 𝓤 H A W binary32, tt))) (h-is, (p-is, (r-is, tt))) (λ a. a ≡ addPointOf h p r) (λ a ws. id⊢ 𝓤 _)
         (and-then ! (load ! (from ! (stop !)) (look ! 7 refl)) (and-then ! (load ! (from ! (stop !)) (look ! 13 refl)) (and-then ! (load ! (from ! (stop !)) (look ! 11 refl)) (no-more !)))) (λ u a a-is wider.
         land ! (from ! (stop !)) (init ! 8 refl (enum.lawful boxed.the-type boxed-laws.the-laws 𝓤 H A W tt .typed a _ a-is .0)) $
+        -- *b = settled(*b, wider);
         assigns ! (of-opd ! (load ! (from ! (hop ! (look ! 14 refl) (stop !))) (look-raw ! 0 refl))) (from ! (stop !)) (init ! 4 refl (box-lawful .typed h _ h-is .0)) $
         calls-plain ! fm settled.ended (settled.clauses 𝓤 H A mem run) known-settled (to-settled a u) none none (box-made, (boxed-made, tt)) (h-is, (a-is, tt)) (λ b. b ≡ settledOf h a) (λ b ws. id⊢ 𝓤 _)
         (and-then ! (load ! (from ! (stop !)) (look ! 5 refl)) (and-then ! (load ! (from ! (stop !)) (look ! 9 refl)) (no-more !))) (λ v b b-is left.
@@ -110,6 +112,7 @@ module _ {M : Type 1} (𝓤 : URA M) (H : Heap 𝓤) (A : Atoms 𝓤) (mem : Mem
         assigns ! (of-opd ! (load ! (from ! (stop !)) (look ! 6 refl))) (from ! (hop ! (look ! 14 refl) (stop !))) (store-raw ! 0 refl (box-lawful .typed b _ b-is .0)) $
         owned ! B (Is B) box-made b (v ∷ []) b-is $ move ! (1 ∷ 0 ∷ []) $ closes ! tt B b (v ∷ []) (x .ptr .0) (x .ptr .1) $
         -- [what is known of the box; the borrow; the token; _6 at 3; _5 at 5; _4 at 7; _3 at 9; _2 at 11; _1 at 13; _0 at 15]
+        -- answered(wider)
         calls-plain ! fm answered.ended (answered.clauses 𝓤 H A mem run) known-answered (to-answered a u) none none (boxed-made, tt) (a-is, tt) (λ n. n ≡ answeredOf a) (λ n ws. id⊢ 𝓤 _)
         (and-then ! (load ! (from ! (stop !)) (look ! 8 refl)) (no-more !)) (λ z n n-is told.
         land ! (from ! (stop !)) (init ! 15 refl (enum.lawful widened.the-type widened-laws.the-laws 𝓤 H A W tt .typed n _ n-is .0)) $ returns ! (look ! 15 refl) $

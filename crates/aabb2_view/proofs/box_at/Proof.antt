@@ -16,15 +16,16 @@ use denote.Plain.{uint-vals, uint-tells, uint-lawful}
 use denote.Builtin.{usize}
 use denote.Enum.Laws as enum
 use denote.Slice.{slice-vals}
-use denote.Triple.Entry.{alive, onEntry}
+use denote.Triple.Statement.{Contract}
+use denote.Triple.Entry.{alive}
 use denote.Triple.Spec.{tripleOf}
 use denote.Triple.Table.{entered, cited}
-use Rattle.aabb2_view.specs.declared.Boxes.{Boxes}
 use Rattle.types.proofs.answer.Boxed as boxed
 use Rattle.types.proofs.answer.Boxed.Laws as boxed-laws
+use Rattle.aabb2_view.specs.declared.Boxes.{Boxes}
+use Rattle.aabb2_view.proofs.Held.{view-vals, view-tells, view-lawful, list-of-view}
 use Rattle.aabb2_view.proofs.Thin.{meets, thin}
 use Rattle.aabb2_view.proofs.Walk.{walk-two}
-use Rattle.aabb2_view.proofs.Held.{view-vals, view-tells, view-lawful, list-of-view}
 use Rattle.aabb2_view.proofs.box_of as box-of
 use Rattle.aabb2_view.proofs.box_of.Symbol as box-of-def
 use Rattle.aabb2_view.proofs.box_of.Met as box-of-thm
@@ -39,14 +40,17 @@ box-at-spec 𝓤 H 𝓜 𝓖 𝓡 =
     let A : Atoms 𝓤 = 𝓖 .A in
     let W : Given 𝓤 H A = givenOf 𝓤 H 𝓜 𝓖 in
     let 𝓣 : Tables 𝓤 H = tablesOf 𝓤 H 𝓜 (tables 𝓤 H 𝓜 𝓡 code.env) in
-    let c = box-of.spec 𝓤 H A (𝓜 .mem) (𝓡 .run) in
-    let known = cited 𝓤 H (tripleOf 𝓤 H A box-of.signature c) 𝓜 𝓡 code.env box-of-def.name box-of-def.routine code.calls-aabb2-view·box-of (box-of-thm.met 𝓤 H 𝓜 𝓖 𝓡) in
-    entered 𝓤 H (tripleOf 𝓤 H A box-at.signature (box-at.spec 𝓤 H A (𝓜 .mem) (𝓡 .run))) (𝓣 .C) (𝓣 .Λ) key.name code.function (code.unfolded 𝓤 H 𝓜 𝓡)
-    (meets 𝓤 H A box-at.signature (box-at.spec 𝓤 H A (𝓜 .mem) (𝓡 .run)) (WpFn 𝓤 H (𝓣 .C) (𝓣 .Λ) code.function) (λ κs. (view-vals, (uint-vals w64, tt))) (λ κs. (view-tells κs, (uint-tells w64, tt))) (λ κs qs bounds a g are.
+    let c = box-at.spec 𝓤 H A (𝓜 .mem) (𝓡 .run) in
+    let c′ = box-of.spec 𝓤 H A (𝓜 .mem) (𝓡 .run) in
+    let C : Contract 𝓤 = tripleOf 𝓤 H A box-at.signature c in
+    let known = cited 𝓤 H (tripleOf 𝓤 H A box-of.signature c′) 𝓜 𝓡 code.env box-of-def.name box-of-def.routine code.calls-aabb2-view·box-of (box-of-thm.met 𝓤 H 𝓜 𝓖 𝓡) in
+    entered 𝓤 H C (𝓣 .C) (𝓣 .Λ) key.name code.function (code.unfolded 𝓤 H 𝓜 𝓡)
+    (meets 𝓤 H A box-at.signature c (WpFn 𝓤 H (𝓣 .C) (𝓣 .Λ) code.function) (λ κs. (view-vals, (uint-vals w64, tt))) (λ κs. (view-tells κs, (uint-tells w64, tt))) (λ κs qs bounds a g are.
     let d : Boxes = a .0 in
     let i : ℕ = a .1 .0 in
     let view-typed = view-lawful 𝓤 H A W κs .typed d _ (are .0) .0 in
-    thin 𝓤 H A box-of.signature c W 𝓣 box-of-def.name known ((κs, qs, tt, (d .all, (i, tt)), (slice-vals (d .all), (uint-vals w64 i, tt))), tt) (id⊢ 𝓤 (emp 𝓤)) (enum.lawful boxed.the-type boxed-laws.the-laws 𝓤 H A W tt)
-    (onEntry 𝓤 H A box-at.signature κs qs a (view-vals d, (uint-vals w64 i, tt))) (monoR 𝓤 (alive 𝓤 H A box-at.signature κs qs) (list-of-view 𝓤 H A W κs d (owns (usize ∷ []) (i, tt) (uint-vals w64 i, tt))))
-    code.function _ (walk-two 𝓤 H A W 𝓣 _ _ _ _ _ _ _ view-typed (tt, view-typed .1 .0) _ _ (uint-lawful 𝓤 H A W w64 .typed i _ (are .1 .0) .0)
-    (λ l₀ l₁ l₂ l₃ Γ. of-opd ! (load ! (from ! (fld ! refl (stop !))) (look-in ! 4 (sub ! 0 refl (whole !))))))))
+    thin 𝓤 H A box-of.signature c′ W 𝓣 box-of-def.name known ((κs, qs, tt, (d .all, (i, tt)), (slice-vals (d .all), (uint-vals w64 i, tt))), tt) (id⊢ 𝓤 (emp 𝓤)) (enum.lawful boxed.the-type boxed-laws.the-laws 𝓤 H A W tt)
+    code.function _ (walk-two 𝓤 H A W 𝓣 _ _ _ _ _ _ _ view-typed (tt, view-typed .1 .0) _ _ (uint-lawful 𝓤 H A W w64 .typed i _ (are .1 .0) .0) (λ l₀ l₁ l₂ l₃ Γ. of-opd ! (load ! (from ! (fld ! refl (stop !))) (look-in ! 4 (sub ! 0 refl (whole !))))))
+    _ (monoR 𝓤 (alive 𝓤 H A box-at.signature κs qs) (list-of-view 𝓤 H A W κs d (owns (usize ∷ []) (i, tt) (uint-vals w64 i, tt))))
+    -- what `box_of` ensures is what `box_at` does
+    (C .post ((κs, qs, bounds, a, (view-vals d, (uint-vals w64 i, tt))), g)) (λ u. id⊢ 𝓤 _)))

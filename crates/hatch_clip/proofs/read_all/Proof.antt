@@ -1,4 +1,4 @@
--- `read_all` keeps to the buffer and ends: what is left of the buffer falls. Assumes nothing.
+-- `hatch_clip::read_all` meets its contract and ends: what is left of the buffer falls. Assumes nothing.
 use mathlib.Core.Path.{_≡_}
 use Prim.Native.Nat.{_-_, _≤_}
 use native.Mathlib.Omega.{arith}

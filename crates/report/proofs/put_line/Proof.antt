@@ -60,6 +60,7 @@ returns c =
 same-length-2 : tie.Need-same-length-2
 same-length-2 c = search needs
 
+-- each call is four places before the next, and five where `shown_bits` stands between
 returns-2 : tie.Need-returns-2
 unfolding lineOf
 returns-2 c =

@@ -14,14 +14,15 @@ use Rattle.report.proofs.Room.{reports}
 use Rattle.report.proofs.report.Statement.{statement}
 use Rattle.report.proofs.report.Tie as tie
 
--- what the reader was to find, and what it did find
+-- what the file is
 abbrev answer : tie.After-read-floats → Answer
 answer c =
     let a = c .before .before .before .before .before .args in
     decodeInto hsl rows (length (now (a .floats))) (now (a .bytes))
 
-read : (c : tie.After-version) → Held (c .before .before .before .before .read-floats .last .1 .0) (c .version .given .0 .0) (c .version .given .0 .1 .0) (answer (c .before .before .before .before))
-read c =
+-- that the floats of an accepted file stand at the front of the list
+found : (c : tie.After-version) → Held (c .before .before .before .before .read-floats .last .1 .0) (c .version .given .0 .0) (c .version .given .0 .1 .0) (answer (c .before .before .before .before))
+found c =
     let f = c .before .before .before .before .read-floats in
     held _ (bounded-into _ _) _ _ _ _ (sym (f .ensures .0) ∙ c .version .given .1) (f .ensures .1)
 
@@ -38,19 +39,19 @@ enum-known-version : tie.Need-enum-known-version
 enum-known-version c = search needs
 
 mul-end : tie.Need-mul-end
-mul-end c = omega (arith, read (c .before) .fits)
+mul-end c = omega (arith, found (c .before) .fits)
 
 put-opening-requires : tie.Need-put-opening-requires
 put-opening-requires c κs = search needs
 
 slice-reshare-prefix-put-lines : tie.Need-slice-reshare-prefix-put-lines
-slice-reshare-prefix-put-lines c = read (c .before .before .before .before .before .before) .fits
+slice-reshare-prefix-put-lines c = found (c .before .before .before .before .before .before) .fits
 
 slice-aggregate-put-lines : tie.Need-slice-aggregate-put-lines
-slice-aggregate-put-lines c = sym (length-take-le _ _ (read (c .before .before .before .before .before .before .before) .fits))
+slice-aggregate-put-lines c = sym (length-take-le _ _ (found (c .before .before .before .before .before .before .before) .fits))
 
 put-lines-requires : tie.Need-put-lines-requires
-put-lines-requires c κs = length-take-le _ _ (read (c .before .before .before .before .before .before .before) .fits)
+put-lines-requires c κs = length-take-le _ _ (found (c .before .before .before .before .before .before .before) .fits)
 
 same-length : tie.Need-same-length
 same-length c = search needs
@@ -61,9 +62,10 @@ same-length-2 c = search needs
 returns : tie.Need-returns
 returns c =
     let put = c .before .before in
-    let n = put .before .before .before in
-    let f = n .before .before .before .before in
-    reports _ _ _ _ _ (same (refusal (answer f) _ (sym (f .read-floats .ensures .0) ∙ n .number .given .1)) (put .put-refusal .ensures))
+    let refused = put .before .before .before in
+    let read = refused .before .before .before .before in
+    let text = refusal (answer read) _ (sym (read .read-floats .ensures .0) ∙ refused .number .given .1) in
+    (reports _ _ _ _ _ (same text (put .put-refusal .ensures)), read .read-floats .ensures .1)
 
 same-length-3 : tie.Need-same-length-3
 same-length-3 c = search needs
@@ -75,7 +77,8 @@ returns-2 : tie.Need-returns-2
 returns-2 c =
     let lines = c .before .before in
     let opening = lines .before .before .before .before .before in
-    reports _ _ _ _ _ (same (read (opening .before .before .before) .text) (many _ _ (opening .put-opening .ensures) (lines .put-lines .ensures)))
+    let accepted = opening .before .before .before in
+    (reports _ _ _ _ _ (same (found accepted .text) (many _ _ (opening .put-opening .ensures) (lines .put-lines .ensures))), accepted .before .before .before .before .read-floats .ensures .1)
 
 pub report-spec : {M : Type 1} → statement M
 report-spec =

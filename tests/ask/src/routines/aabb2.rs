@@ -15,6 +15,9 @@ pub const ROUTINES: &[Routine] = &[
     routine("aabb2.add_point", "fffffff", |a| {
         aabb2::add_point(a.aabb2(0), a.point(4), a.f(6)).into()
     }),
+    routine("aabb2.add_point_lent", "fffffff", |a| {
+        aabb2::add_point_lent(a.aabb2(0), a.point(4), a.f(6)).into()
+    }),
     routine("aabb2.rasterize", "ffffuu", |a| {
         aabb2::rasterize(a.aabb2(0), a.u(0) as usize, a.u(1) as usize).into()
     }),

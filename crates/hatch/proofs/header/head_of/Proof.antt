@@ -1,5 +1,5 @@
 -- `hatch::header::head_of` meets its contract: each answer is what `headOf` picks by the tests that led there. Assumes nothing.
-use mathlib.Core.Path.{_≡_, sym, _∙_}
+use mathlib.Core.Path.{_≡_, refl, sym, _∙_}
 use mathlib.Core.Bool.{true}
 use native.Mathlib.Omega.{arith}
 use denote.Ref.{now}
@@ -45,27 +45,28 @@ enum-known-width c = search needs
 
 sized-requires : tie.Need-sized-requires
 sized-requires c κs =
-    let t = c .before in
-    let r = t .before .before in
-    (omega (arith, listed _ _ _ (sym (r .layout-of .ensures) ∙ t .width .given .1) .is-width), r .before .half2 .ensures .1)
+    let known = c .before in
+    let layout = known .before .before in
+    (omega (arith, listed _ _ _ (sym (layout .layout-of .ensures) ∙ known .width .given .1) .is-width), layout .before .half2 .ensures .1)
 
 returns-3 : tie.Need-returns-3
 unfolding versionedOf
 returns-3 c =
-    let r = c .before .before in
-    let h = r .before in
-    let t = h .before .before in
-    by-layout hsl rows _ (marked (t .before)) (t .if2 .left) _ _ _ (h .before .half .ensures .0) (h .half2 .ensures .0) (sym (c .enum-told .given .1) ∙ r .layout-of .ensures)
+    let layout = c .before .before in
+    let count = layout .before in
+    let test = count .before .before in
+    by-layout hsl rows _ (marked (test .before)) (test .if2 .left) (count .before .half .ensures .0) (count .half2 .ensures .0)
+    (sym (c .enum-told .given .1) ∙ layout .layout-of .ensures) refl
 
 returns-4 : tie.Need-returns-4
 unfolding versionedOf
 returns-4 c =
-    let l = c .before .before in
-    let r = l .before .before in
-    let h = r .before in
-    let t = h .before .before in
-    c .sized .ensures
-    ∙ by-layout hsl rows _ (marked (t .before)) (t .if2 .left) _ _ _ (h .before .half .ensures .0) (h .half2 .ensures .0) (sym (l .width .given .1) ∙ r .layout-of .ensures)
+    let known = c .before .before in
+    let layout = known .before .before in
+    let count = layout .before in
+    let test = count .before .before in
+    by-layout hsl rows _ (marked (test .before)) (test .if2 .left) (count .before .half .ensures .0) (count .half2 .ensures .0)
+    (sym (known .width .given .1) ∙ layout .layout-of .ensures) (c .sized .ensures)
 
 pub head-of-spec : {M : Type 1} → statement M
 head-of-spec =

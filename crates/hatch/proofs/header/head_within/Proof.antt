@@ -17,10 +17,14 @@ returns : tie.Need-returns
 returns c = stays-invalid _ (c .before .before .before .head-of .ensures) (c .before .number .given .1)
 
 returns-2 : tie.Need-returns-2
-returns-2 c = let t = c .before .before in no-room _ (t .before .before .head-of .ensures) (t .version .given .1) (c .if1 .taken)
+returns-2 c =
+    let valid = c .before .before in
+    no-room _ (valid .before .before .head-of .ensures) (valid .version .given .1) (c .if1 .taken)
 
 returns-3 : tie.Need-returns-3
-returns-3 c = let t = c .before .before in has-room _ (t .before .before .head-of .ensures) (t .version .given .1) (c .if1 .left)
+returns-3 c =
+    let valid = c .before .before in
+    has-room _ (valid .before .before .head-of .ensures) (valid .version .given .1) (c .if1 .left)
 
 pub head-within-spec : {M : Type 1} → statement M
 head-within-spec = tie.close (tie.spec head-of-requires enum-known-number enum-known-version returns returns-2 returns-3)

@@ -17,8 +17,8 @@ enum-known-version c = search needs
 
 load-floats-requires : tie.Need-load-floats-requires
 load-floats-requires c κs =
-    let t = c .before .before in
-    whole _ _ (t .before .before .head-within .ensures) (t .version .given .1)
+    let valid = c .before .before in
+    whole _ _ (valid .before .before .head-within .ensures) (valid .version .given .1)
 
 returns : tie.Need-returns
 returns c = refuses _ _ (c .before .before .before .head-within .ensures) floatOf _ (c .before .number .given .1)
@@ -29,8 +29,8 @@ same-length c = search needs
 returns-2 : tie.Need-returns-2
 returns-2 c =
     let load = c .before .before in
-    let t = load .before .before .before in
-    let a = accepts _ _ (t .before .before .head-within .ensures) floatOf _ (t .version .given .1) in
+    let valid = load .before .before .before in
+    let a = accepts _ _ (valid .before .before .head-within .ensures) floatOf _ (valid .version .given .1) in
     (a .0, load .load-floats .ensures ∙ a .1)
 
 pub read-floats-spec : {M : Type 1} → statement M
