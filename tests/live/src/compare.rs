@@ -1,5 +1,6 @@
-//! Random inputs for each routine.
+//! Random inputs for each routine, and the tiles by brute force.
 
+use crate::cover;
 use crate::figures;
 use crate::inputs::Inputs;
 use crate::options::Options;
@@ -18,5 +19,5 @@ pub fn run(options: &Options) -> Result<(), String> {
     }
     let total = pairs.len() as u64 * count;
     println!("{} routines, {total} inputs, no difference, seed {}", pairs.len(), options.seed);
-    Ok(())
+    if options.only.is_empty() { cover::run(options) } else { Ok(()) }
 }

@@ -4,6 +4,7 @@ mod floats;
 mod kinds;
 mod make;
 mod source;
+mod touch;
 mod wholes;
 
 pub use kinds::{Kind, mirror};
@@ -65,6 +66,9 @@ impl Inputs {
         let source = Source::random(&mut self.random);
         for kind in self.row.shape {
             make::make(*kind, source, &mut self.random, &mut self.args);
+        }
+        if self.random.one_in(4) {
+            touch::touch(self.row.shape, &mut self.args.floats, &mut self.random);
         }
         let figure = self.row.shape.iter().any(|kind| kind.is_figure());
         self.twins = if source.is_grid() && figure { 2 } else { 0 };

@@ -30,9 +30,16 @@ fn arrange(kind: Kind, floats: &mut [f32], random: &mut Random) {
         Kind::Direction if random.one_in(4) => {
             floats[random.below(2) as usize] = random.pick(&[0.0, -0.0]);
         }
-        Kind::TurnedBox if !random.one_in(4) => {
+        Kind::TurnedBox => {
             let ratio = random.pick(&[0.25, 0.5, 1.0, -2.0]);
-            [floats[4], floats[5]] = [-floats[3] * ratio, floats[2] * ratio];
+            match random.below(8) {
+                // No edge, and no area.
+                0 => [floats[4], floats[5]] = [0.0, 0.0],
+                1 => [floats[4], floats[5]] = [floats[2] * ratio, floats[3] * ratio],
+                // Any two edges.
+                2 | 3 => {}
+                _ => [floats[4], floats[5]] = [-floats[3] * ratio, floats[2] * ratio],
+            }
         }
         // An affine transform has the last row 0 0 1. With 0 0 0 no point has an image.
         Kind::Matrix if random.one_in(2) => {

@@ -1,0 +1,36 @@
+//! Boxes that touch, and boxes one ulp off.
+
+use super::Kind;
+use super::floats::neighbour;
+use crate::random::Random;
+
+/// Moves the second of two boxes to an edge of the first. Other arguments stay as they are.
+pub fn touch(shape: &[Kind], floats: &mut [f32], random: &mut Random) {
+    match shape {
+        [Kind::TurnedBox, Kind::TurnedBox] => beside(floats, random),
+        [Kind::TurnedBox, Kind::Box] => upright_beside(floats, random),
+        _ => {}
+    }
+}
+
+fn near(x: f32, random: &mut Random) -> f32 {
+    if random.one_in(2) { neighbour(x, random) } else { x }
+}
+
+/// Parallel to the first, a half edge of each away from its centre.
+fn beside(floats: &mut [f32], random: &mut Random) {
+    let ratio = random.pick(&[0.5, 1.0, -2.0]);
+    for i in 0..2 {
+        floats[8 + i] = floats[2 + i] * ratio;
+        floats[10 + i] = floats[4 + i] * ratio;
+        floats[6 + i] = near(floats[i] + floats[2 + i] + floats[8 + i], random);
+    }
+}
+
+/// The turned box is put upright, and the upright one begins where it ends in x.
+fn upright_beside(floats: &mut [f32], random: &mut Random) {
+    [floats[3], floats[4]] = [0.0, 0.0];
+    let width = (floats[8] - floats[6]).abs();
+    floats[6] = near(floats[0] + floats[2].abs(), random);
+    floats[8] = floats[6] + width;
+}
