@@ -31,10 +31,12 @@ mod raw {
     }
 }
 
+#[inline]
 pub fn intersections_against_line(b: Aabb2, origin: Vec2, direction: Vec2) -> Option<(f32, f32)> {
     raw::intersections_against_line(b, origin, direction).option()
 }
 
+#[inline]
 pub fn intersections_against_ray(b: Aabb2, origin: Vec2, direction: Vec2) -> Option<(f32, f32)> {
     raw::intersections_against_ray(b, origin, direction).option()
 }

@@ -78,45 +78,55 @@ mod raw {
     }
 }
 
+#[inline]
 pub fn from_point(p: Vec2, radius: f32) -> Result<Aabb2, u32> {
     raw::from_point(p, radius).result()
 }
 
+#[inline]
 pub fn add_point(b: Aabb2, p: Vec2, radius: f32) -> Result<Aabb2, u32> {
     raw::add_point(b, p, radius).result()
 }
 
 /// Through a box that is lent and widened where it stands.
+#[inline]
 pub fn add_point_lent(b: Aabb2, p: Vec2, radius: f32) -> Result<Aabb2, u32> {
     raw::add_point_lent(b, p, radius).result()
 }
 
+#[inline]
 pub fn rasterize(b: Aabb2, width: usize, height: usize) -> Result<[usize; 4], u32> {
     raw::rasterize(b, width, height).result()
 }
 
+#[inline]
 pub fn transform_homogeneous(b: Aabb2, m: Mat3) -> Result<Aabb2, u32> {
     raw::transform_homogeneous(b, m).result()
 }
 
+#[inline]
 pub fn nearest_point2(b: Aabb2, p: Vec2) -> Result<Vec2, u32> {
     raw::nearest_point2(b, p).result()
 }
 
 /// How many whole boxes a flat list has.
+#[inline]
 pub fn count(all: &[f32]) -> usize {
     unsafe { raw::count(all.as_ptr(), all.len()) }
 }
 
+#[inline]
 pub fn from_aabbs(all: &[f32], index: usize) -> Result<Aabb2, u32> {
     unsafe { raw::from_aabbs(all.as_ptr(), all.len(), index) }.result()
 }
 
+#[inline]
 pub fn from_slice(s: &[f32]) -> Result<Aabb2, u32> {
     unsafe { raw::from_slice(s.as_ptr(), s.len()) }.result()
 }
 
 /// Writes the tiles to the list's first entries and answers how many there are; a refusal leaves the list as it was.
+#[inline]
 pub fn overlapping_tiles(
     b: Aabb2,
     size: usize,

@@ -47,53 +47,63 @@ pub struct CountAnswer {
 }
 
 impl FloatAnswer {
+    #[inline]
     pub fn result(self) -> Result<f32, u32> {
         result(self.status, self.value)
     }
 
+    #[inline]
     pub fn option(self) -> Result<Option<f32>, u32> {
         option(self.status, self.value)
     }
 }
 
 impl PointAnswer {
+    #[inline]
     pub fn result(self) -> Result<Vec2, u32> {
         result(self.status, self.value)
     }
 
+    #[inline]
     pub fn option(self) -> Option<Vec2> {
         (self.status == 0).then_some(self.value)
     }
 }
 
 impl BoxAnswer {
+    #[inline]
     pub fn result(self) -> Result<Aabb2, u32> {
         result(self.status, self.value)
     }
 }
 
 impl IntervalAnswer {
+    #[inline]
     pub fn option(self) -> Option<(f32, f32)> {
         (self.status == 0).then_some((self.tmin, self.tmax))
     }
 }
 
 impl PixelsAnswer {
+    #[inline]
     pub fn result(self) -> Result<[usize; 4], u32> {
         result(self.status, [self.x0, self.y0, self.x1, self.y1])
     }
 }
 
 impl CountAnswer {
+    #[inline]
     pub fn result(self) -> Result<usize, u32> {
         result(self.status, self.count)
     }
 }
 
+#[inline]
 fn result<T>(status: u32, value: T) -> Result<T, u32> {
     if status == 0 { Ok(value) } else { Err(status) }
 }
 
+#[inline]
 fn option<T>(status: u32, value: T) -> Result<Option<T>, u32> {
     if status == NONE { Ok(None) } else { result(status, value).map(Some) }
 }

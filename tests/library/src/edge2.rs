@@ -51,15 +51,18 @@ mod raw {
     }
 }
 
+#[inline]
 pub fn intersection_length_against_aabb2(s: Vec2, e: Vec2, b: Aabb2) -> Result<f32, u32> {
     raw::intersection_length_against_aabb2(s, e, b).result()
 }
 
+#[inline]
 pub fn ink(s: Vec2, e: Vec2, b: Aabb2) -> Result<f32, u32> {
     raw::ink(s, e, b).result()
 }
 
 /// Writes the pixels to the list's first entries and answers how many there are; a refusal leaves the list as it was.
+#[inline]
 pub fn overlapping_pixels_dda(
     width: usize,
     height: usize,

@@ -12,6 +12,7 @@ mod raw {
     }
 }
 
+#[inline]
 pub fn transform_homogeneous(m: Mat3, p: Vec2) -> Option<Vec2> {
     raw::transform_homogeneous(m, p).option()
 }

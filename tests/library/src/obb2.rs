@@ -26,6 +26,7 @@ mod raw {
     }
 }
 
+#[inline]
 pub fn nearest_point2(o: Obb2, p: Vec2) -> Result<Vec2, u32> {
     raw::nearest_point2(o, p).result()
 }

@@ -15,10 +15,12 @@ mod raw {
     }
 }
 
+#[inline]
 pub fn distance_to_range(a: Range, b: Range) -> Result<Option<f32>, u32> {
     raw::distance_to_range(a, b).option()
 }
 
+#[inline]
 pub fn intersection_length(a: Range, b: Range) -> Result<Option<f32>, u32> {
     raw::intersection_length(a, b).option()
 }

@@ -48,30 +48,35 @@ pub struct OnEdge {
 }
 
 impl From<[f32; 2]> for Vec2 {
+    #[inline]
     fn from([x, y]: [f32; 2]) -> Self {
         Vec2 { x, y }
     }
 }
 
 impl From<Vec2> for [f32; 2] {
+    #[inline]
     fn from(p: Vec2) -> Self {
         [p.x, p.y]
     }
 }
 
 impl From<[f32; 2]> for Range {
+    #[inline]
     fn from([low, high]: [f32; 2]) -> Self {
         Range { low, high }
     }
 }
 
 impl From<[f32; 4]> for Aabb2 {
+    #[inline]
     fn from([min_x, min_y, max_x, max_y]: [f32; 4]) -> Self {
         Aabb2 { min_x, min_y, max_x, max_y }
     }
 }
 
 impl From<Aabb2> for [f32; 4] {
+    #[inline]
     fn from(b: Aabb2) -> Self {
         [b.min_x, b.min_y, b.max_x, b.max_y]
     }
