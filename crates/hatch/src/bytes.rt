@@ -11,7 +11,7 @@ fn wide(x: u8) -> u32
 }
 
 // The 16-bit number at a byte, as a usize.
-pub fn half(bytes: &[u8], at: usize) -> usize
+pub(crate) fn half(bytes: &[u8], at: usize) -> usize
     requires { ⌜ at + 2 ≤ length (now bytes) ⌝ }
     ensures { λ r. ⌜ (r ≡ halfAt (now (bytes .entry)) at) × (r < 65536) ⌝ }
 {
@@ -21,7 +21,7 @@ pub fn half(bytes: &[u8], at: usize) -> usize
 }
 
 // The 32-bit number at a byte.
-pub fn word(bytes: &[u8], at: usize) -> u32
+pub(crate) fn word(bytes: &[u8], at: usize) -> u32
     requires { ⌜ at + 4 ≤ length (now bytes) ⌝ }
     ensures { λ r. ⌜ r ≡ wordAt (now (bytes .entry)) at ⌝ }
 {
@@ -31,7 +31,7 @@ pub fn word(bytes: &[u8], at: usize) -> u32
         + 16777216 * wide(bytes[at + 3])
 }
 
-pub fn starts_with(bytes: &[u8], mark: &[u8]) -> bool
+pub(crate) fn starts_with(bytes: &[u8], mark: &[u8]) -> bool
     ensures { λ r. ⌜ r ≡ startsWith (now (mark .entry)) (now (bytes .entry)) ⌝ }
 {
     let mut i = 0;

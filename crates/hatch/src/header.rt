@@ -78,7 +78,7 @@ fn head_of(bytes: &[u8]) -> Head
 }
 
 // The same for a list of `room` entries, which has to hold eight floats a record.
-pub fn head_within(bytes: &[u8], room: usize) -> Head
+pub(crate) fn head_within(bytes: &[u8], room: usize) -> Head
     ensures { λ r. ⌜ r ≡ withRoom room (headOf hsl rows (now (bytes .entry))) ⌝ }
 {
     match head_of(bytes) {

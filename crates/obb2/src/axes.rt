@@ -27,7 +27,7 @@ fn apart(a: Range, b: Range) -> bool
 
 // The place, from 0, of the first axis that separates the corners ps from the corners qs, or 4 where none does.
 // The first one found ends both loops.
-pub fn first_separating(ps: [Vec2; 4], qs: [Vec2; 4], axes: [Vec2; 4]) -> usize
+pub(crate) fn first_separating(ps: [Vec2; 4], qs: [Vec2; 4], axes: [Vec2; 4]) -> usize
     ensures { λ r. ⌜ r ≡ firstOf (separates dotOf ps qs) axes ⌝ }
 {
     let mut j = 0;
