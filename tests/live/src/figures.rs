@@ -1,8 +1,8 @@
 //! Document 01's figures with known results, put to the Rust and to the library.
 
 use crate::inputs::mirror;
-use crate::judge;
-use ask::{parse_args, reply, request_line};
+use crate::judge::{self, Row};
+use ask::{Args, parse_args, reply, request_line};
 
 const TABLE: &str = include_str!("../../figures.txt");
 
@@ -20,9 +20,7 @@ pub fn all() -> Result<Vec<Figure>, String> {
 
 fn figures(line: &'static str) -> Option<Vec<Figure>> {
     let (request, answer) = line.split_once(" = ")?;
-    let mut fields = request.split(' ');
-    let row = judge::named(fields.next()?)?;
-    let args = parse_args(&row.signature(), fields)?;
+    let (row, args) = parse(request)?;
     let mut figures = vec![Figure { request: request.to_string(), answer }];
     if matches!(row.name, "aabb.line" | "aabb.ray") {
         for axis in [0, 1] {
@@ -51,8 +49,13 @@ pub fn check() -> Result<usize, String> {
 }
 
 fn rust_reply(request: &str) -> Option<String> {
+    let (row, args) = parse(request)?;
+    Some(row.answer(&args)?.to_string())
+}
+
+/// The judge's row that a request is for, and its arguments.
+fn parse(request: &str) -> Option<(&'static Row, Args)> {
     let mut fields = request.split(' ');
     let row = judge::named(fields.next()?)?;
-    let args = parse_args(&row.signature(), fields)?;
-    Some(row.answer(&args)?.to_string())
+    Some((row, parse_args(&row.signature(), fields)?))
 }
