@@ -19,12 +19,15 @@ use Rattle.types.specs.declared.answer.Pixels.{Pixels}
 use Rattle.types.specs.declared.answer.Pixels.the-variants as pixels
 use Rattle.types.specs.declared.answer.Listed.{Listed}
 use Rattle.types.specs.declared.answer.Listed.the-variants as listed
+use Rattle.hatch.specs.declared.read.Read.{Read}
+use Rattle.hatch.specs.declared.read.Read.the-variants as read
 use Rattle.exports.specs.declared.answers.FloatAnswer.{FloatAnswer}
 use Rattle.exports.specs.declared.answers.PointAnswer.{PointAnswer}
 use Rattle.exports.specs.declared.answers.BoxAnswer.{BoxAnswer}
 use Rattle.exports.specs.declared.answers.IntervalAnswer.{IntervalAnswer}
 use Rattle.exports.specs.declared.answers.PixelsAnswer.{PixelsAnswer}
 use Rattle.exports.specs.declared.answers.CountAnswer.{CountAnswer}
+use Rattle.exports.specs.declared.answers.ReadAnswer.{ReadAnswer}
 use Rattle.float.specs.Rounded.{+0}
 
 abbrev pub none : ℕ
@@ -74,3 +77,7 @@ ofPixels (pixels.Refused n) = record { status = n; x0 = 0; y0 = 0; x1 = 0; y1 = 
 unfoldable pub ofListed : Listed → CountAnswer
 ofListed (listed.Count n) = record { status = 0; count = n }
 ofListed (listed.Refused n) = record { status = n; count = 0 }
+
+unfoldable pub ofRead : Read → ReadAnswer
+ofRead (read.Records v n) = record { status = 0; version = v; count = n }
+ofRead (read.Refused n) = record { status = n; version = 0; count = 0 }

@@ -1,5 +1,6 @@
 // Answers as C sees them. The status is 0 where there is an answer, 255 where there is none, and a refusal's number otherwise;
 // what is not answered is zero.
+use hatch::Read;
 use types::Aabb2;
 use types::Boxed;
 use types::Extent;
@@ -11,7 +12,7 @@ use types::Nearest;
 use types::Pixels;
 use types::Vec2;
 ghost use mathlib.Core.Path.{_≡_};
-ghost use Rattle.exports.specs.Answers.{ofExtent, ofLength, ofImage, ofNearest, ofBoxed, ofInterval, ofPixels, ofListed};
+ghost use Rattle.exports.specs.Answers.{ofExtent, ofLength, ofImage, ofNearest, ofBoxed, ofInterval, ofPixels, ofListed, ofRead};
 
 #[repr(C)]
 pub struct FloatAnswer {
@@ -50,6 +51,13 @@ pub struct PixelsAnswer {
 #[repr(C)]
 pub struct CountAnswer {
     pub status: u32,
+    pub count: usize,
+}
+
+#[repr(C)]
+pub struct ReadAnswer {
+    pub status: u32,
+    pub version: usize,
     pub count: usize,
 }
 
@@ -160,5 +168,22 @@ pub fn listed(a: Listed) -> CountAnswer
     match a {
         Listed::Count(count) => CountAnswer { status: 0, count },
         Listed::Refused(status) => CountAnswer { status, count: 0 },
+    }
+}
+
+pub fn read(a: Read) -> ReadAnswer
+    ensures { λ r. ⌜ r ≡ ofRead a ⌝ }
+{
+    match a {
+        Read::Records { version, count } => ReadAnswer {
+            status: 0,
+            version,
+            count,
+        },
+        Read::Refused(status) => ReadAnswer {
+            status,
+            version: 0,
+            count: 0,
+        },
     }
 }

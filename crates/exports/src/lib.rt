@@ -3,6 +3,7 @@ mod answers;
 mod boxes;
 mod edges;
 mod floats;
+mod hatches;
 mod lists;
 mod matrices;
 mod ranges;
