@@ -1,0 +1,455 @@
+/*
+ * Bagnoszyk: geometry for patent drawings in f32, proved. The C interface.
+ *
+ * Calls. Every routine takes any bits in every number, NaN and infinities among them, ends, and gives an answer, none, or
+ * the number of a refusal. It keeps no state, allocates nothing and calls nothing outside the library, so threads may call
+ * at the same time; a list that one call writes must be in use by no other call.
+ *
+ * Answers. A struct bgz_..._answer has a status: BGZ_ANSWERED (0), BGZ_NONE (255), or a bgz_refusal. Where the status is not
+ * 0, every other field is 0. A routine that returns no such struct refuses nothing. Conditions of a refusal are listed in
+ * the order in which they are tested; the first that holds gives the number.
+ *
+ * Floats. Each operation is rounded to the nearest float, ties to even, as IEEE 754 has it. The caller must leave the
+ * rounding mode as it is at the start of a program, and subnormal numbers on: a program linked with -ffast-math may turn
+ * them off. A comparison with a NaN is false. An answer that is a NaN may have any NaN's bits. +0 and -0 are equal in every
+ * comparison; of two equal zeros a minimum or maximum gives the first. Minimum and maximum, wherever a comment names them,
+ * drop a NaN if the other is a number.
+ *
+ * Lists. A list is a pointer to its first entry and the number of its entries. The pointer must not be null, even if the
+ * length is 0, and must be aligned for its type; that many entries must be readable, and writable unless the pointer is to
+ * const. Lists of one call must not overlap. A routine that writes to a list says which entries it writes; the entries
+ * beyond them are left as they are. A refused call changes no list, except that bgz_hatch_report writes the refusal as text.
+ */
+#ifndef BAGNOSZYK_H
+#define BAGNOSZYK_H
+
+#include <stdbool.h>
+#include <stddef.h>
+#include <stdint.h>
+
+#ifdef __cplusplus
+extern "C" {
+#endif
+
+/* ---- the status of an answer */
+
+enum bgz_refusal {
+    BGZ_ANSWERED = 0,    /* no refusal: the answer is in the other fields */
+    BGZ_ROOM = 1,        /* a lent list is shorter than what is to be written */
+    BGZ_SAME_ENDS = 2,   /* both ends of a stroke are equal */
+    BGZ_COORDINATE = 3,  /* a coordinate is not finite, or too large */
+    BGZ_SIZE = 4,        /* a side of an image or a sheet is too large, or a tile size is 0 or too large */
+    BGZ_ORDER = 5,       /* a range is not ordered: low is not at most high */
+    BGZ_RADIUS = 6,      /* a radius is not at least 0 */
+    BGZ_NAN_LENGTH = 7,  /* a length to a turned box is NaN */
+    BGZ_NO_IMAGE = 8,    /* a corner has no image under a transform */
+    BGZ_INDEX = 9,       /* an index is not below the number of boxes */
+    BGZ_MARK = 10,       /* a hatch list does not begin with its mark */
+    BGZ_VERSION = 11,    /* a hatch list has an unknown version */
+    BGZ_COUNT = 12,      /* a hatch list has too many records */
+    BGZ_LENGTH = 13,     /* the bytes of a hatch list are too few or too many */
+    BGZ_NONE = 255       /* no refusal: there is none of what was asked for */
+};
+
+/* ---- shapes */
+
+/* A point or a vector. */
+typedef struct bgz_vec2 {
+    float x;
+    float y;
+} bgz_vec2;
+
+/* The numbers from low to high. */
+typedef struct bgz_range {
+    float low;
+    float high;
+} bgz_range;
+
+/* An upright box, by its low and its high corner. */
+typedef struct bgz_aabb2 {
+    float min_x;
+    float min_y;
+    float max_x;
+    float max_y;
+} bgz_aabb2;
+
+/* A turned box: its centre c and two half edges, u and v. */
+typedef struct bgz_obb2 {
+    float cx;
+    float cy;
+    float ux;
+    float uy;
+    float vx;
+    float vy;
+} bgz_obb2;
+
+/* A 3 by 3 matrix in column-major order: mRC stands in row R and column C. */
+typedef struct bgz_mat3 {
+    float m00;
+    float m10;
+    float m20;
+    float m01;
+    float m11;
+    float m21;
+    float m02;
+    float m12;
+    float m22;
+} bgz_mat3;
+
+/* Four corners, each joined to the next by an edge, and the last to the first. */
+typedef struct bgz_corners {
+    bgz_vec2 p0;
+    bgz_vec2 p1;
+    bgz_vec2 p2;
+    bgz_vec2 p3;
+} bgz_corners;
+
+/* A point of an edge, and its ratio along the edge: 0 at the first end, 1 at the second. */
+typedef struct bgz_on_edge {
+    float ratio;
+    bgz_vec2 point;
+} bgz_on_edge;
+
+/* ---- answers */
+
+typedef struct bgz_float_answer {
+    uint32_t status;
+    float value;
+} bgz_float_answer;
+
+typedef struct bgz_point_answer {
+    uint32_t status;
+    bgz_vec2 value;
+} bgz_point_answer;
+
+typedef struct bgz_box_answer {
+    uint32_t status;
+    bgz_aabb2 value;
+} bgz_box_answer;
+
+/* The stretch of a line or a ray in a box, by the parameters t of its two ends: the points origin + t * direction. */
+typedef struct bgz_interval_answer {
+    uint32_t status;
+    float tmin;
+    float tmax;
+} bgz_interval_answer;
+
+/* Columns from x0 up to and without x1, rows from y0 up to and without y1. */
+typedef struct bgz_pixels_answer {
+    uint32_t status;
+    size_t x0;
+    size_t y0;
+    size_t x1;
+    size_t y1;
+} bgz_pixels_answer;
+
+/* How many entries were written. */
+typedef struct bgz_count_answer {
+    uint32_t status;
+    size_t count;
+} bgz_count_answer;
+
+/* The version of a hatch list, and how many records were read. */
+typedef struct bgz_read_answer {
+    uint32_t status;
+    size_t version;
+    size_t count;
+} bgz_read_answer;
+
+/* ---- floats */
+
+/* The absolute value: the sign is dropped, that of -0 too. */
+float bgz_f32_abs(float x);
+
+/* The smaller of two numbers; if one is a NaN, the other. */
+float bgz_f32_min(float a, float b);
+
+/* The larger of two numbers; if one is a NaN, the other. */
+float bgz_f32_max(float a, float b);
+
+/* low if x is below low, else high if x is above high, else x, a NaN too. Any low and high are taken. */
+float bgz_f32_clamp(float x, float low, float high);
+
+/* The greatest whole number that is not above x. The sign is kept, that of a zero too; a NaN and an infinity give themselves. */
+float bgz_f32_floor(float x);
+
+/* The least whole number that is not below x. The sign is kept, so -0.5 gives -0; a NaN and an infinity give themselves. */
+float bgz_f32_ceil(float x);
+
+/* x cut toward zero to an integer and held at the type's ends; 0 for a NaN. */
+int32_t bgz_f32_to_i32(float x);
+
+/* The same for uint32_t: every x below 1 gives 0. */
+uint32_t bgz_f32_to_u32(float x);
+
+/* The same for size_t: every x below 1 gives 0. */
+size_t bgz_f32_to_usize(float x);
+
+/* The float nearest to the square root. A zero gives itself, +infinity gives itself, any other x below 0 gives a NaN. */
+float bgz_f32_sqrt(float x);
+
+/* ---- ranges */
+
+/*
+ * The gap between two ranges. None if they touch or overlap.
+ * Refused: BGZ_ORDER if a or b is not low <= high, as with a NaN.
+ */
+bgz_float_answer bgz_range_distance_to_range(bgz_range a, bgz_range b);
+
+/*
+ * The length that two ranges share. None if they touch or lie apart; a range of one point strictly inside the other gives 0.
+ * Refused: BGZ_ORDER if a or b is not low <= high, as with a NaN.
+ */
+bgz_float_answer bgz_range_intersection_length(bgz_range a, bgz_range b);
+
+/* ---- points and vectors */
+
+/* a - b, by component. */
+bgz_vec2 bgz_vec2_sub(bgz_vec2 a, bgz_vec2 b);
+
+/* a.x * b.x + a.y * b.y. */
+float bgz_vec2_dot(bgz_vec2 a, bgz_vec2 b);
+
+/* p.x * p.x + p.y * p.y. */
+float bgz_vec2_squared_length(bgz_vec2 p);
+
+/* The square root of the squared length, which may overflow to infinity. */
+float bgz_vec2_length(bgz_vec2 p);
+
+/* ---- matrices */
+
+/* The image of p: (m (p.x, p.y, 1)) divided by its third component. None if that component, as computed, is a zero. */
+bgz_point_answer bgz_mat3_transform_homogeneous(bgz_mat3 m, bgz_vec2 p);
+
+/* ---- edges */
+
+/* The length of the edge from s to e. */
+float bgz_edge2_length(bgz_vec2 s, bgz_vec2 e);
+
+/* The squared length of the edge from s to e. */
+float bgz_edge2_squared_length(bgz_vec2 s, bgz_vec2 e);
+
+/* The direction from s to e: e - s times 1 / length. An edge whose computed length is 0 gives infinities or NaN. */
+bgz_vec2 bgz_edge2_unit_edge_vector(bgz_vec2 s, bgz_vec2 e);
+
+/* (1 - ratio) * p0 + ratio * p1: p0 at 0, p1 at 1. Any ratio is taken. */
+bgz_vec2 bgz_edge2_position_from_ratio(bgz_vec2 p0, bgz_vec2 p1, float ratio);
+
+/*
+ * (pe - ps) . q divided by the length of pe - ps. This is del-geo-core's formula: q is measured from the origin and not from
+ * ps, and the result is a length and not a ratio.
+ */
+float bgz_edge2_ratio_from_position(bgz_vec2 ps, bgz_vec2 pe, bgz_vec2 q);
+
+/*
+ * Whether the upright boxes of two edges meet, widened by 2^-23 times the sum of their sides. Where they do not, the edges
+ * cannot cross.
+ */
+bool bgz_edge2_culling_intersection(bgz_vec2 s0, bgz_vec2 e0, bgz_vec2 s1, bgz_vec2 e1);
+
+/*
+ * The point of the edge from s to e that is nearest to (0, 0), with its ratio. An edge whose computed squared length is 0
+ * gives its midpoint, with ratio 0.5.
+ */
+bgz_on_edge bgz_edge2_nearest_origin(bgz_vec2 s, bgz_vec2 e);
+
+/* The point of the edge from s to e that is nearest to p, with its ratio; an edge of no length as above. */
+bgz_on_edge bgz_edge2_nearest_to_point(bgz_vec2 s, bgz_vec2 e, bgz_vec2 p);
+
+/*
+ * The length of the edge from s to e in the box b, as del-geo-core takes it: the diagonal of what the box's range and the
+ * range between the ends share in x and in y. 0 if they share nothing in x, or nothing in y. It is the exact length only
+ * where the edge runs from corner to corner of what is shared.
+ * Refused: BGZ_ORDER if in x the box is not low <= high, as with a NaN, or both ends are NaN; then, unless x shares
+ * nothing, the same in y.
+ */
+bgz_float_answer bgz_edge2_intersection_length_against_aabb2(bgz_vec2 s, bgz_vec2 e, bgz_aabb2 b);
+
+/* The ink that the stroke from s to e leaves in the box b: the length above, with its refusal. */
+bgz_float_answer bgz_edge2_ink(bgz_vec2 s, bgz_vec2 e, bgz_aabb2 b);
+
+/*
+ * The pixels under the stroke from p0 to p1, in an image of width by height pixels; a side may be 0. A walk starts at p0.
+ * Each step adds the difference of the ends divided by the larger absolute difference, signs kept. The walk goes on while
+ * x and y lie within the ends' ranges, widened by 2^-23. Each position in the image enters row * width + column. The position
+ * after them enters the same as a closing entry, a negative coordinate as 0: it may name a pixel of the next row, or none.
+ * Writes the entries to the start of list and answers how many, which is never above 131,075.
+ * Refused: BGZ_SIZE if width or height is above 16,384; BGZ_COORDINATE if a coordinate is not finite or is above 65,536 in
+ * size; BGZ_SAME_ENDS if p0 equals p1; BGZ_ROOM if list is shorter than the entries.
+ */
+bgz_count_answer bgz_edge2_overlapping_pixels_dda(size_t width, size_t height, bgz_vec2 p0, bgz_vec2 p1,
+                                                  uint32_t *list, size_t list_length);
+
+/* ---- upright boxes */
+
+/*
+ * The stretch of the line origin + t * direction in the box b: tmin <= tmax, both finite. None if the line misses b; touching
+ * an edge or a corner is a hit. Where a component of direction is a zero, that dimension only tests that origin is not
+ * outside. t keeps its sign: a line may be in the box only at negative t.
+ */
+bgz_interval_answer bgz_aabb_intersections_against_line(bgz_aabb2 b, bgz_vec2 origin, bgz_vec2 direction);
+
+/* The line's answer if tmax >= 0, and else none. tmin is not raised to 0: it may be negative. */
+bgz_interval_answer bgz_aabb_intersections_against_ray(bgz_aabb2 b, bgz_vec2 origin, bgz_vec2 direction);
+
+/* Whether p is in b, edges included. A NaN is outside. */
+bool bgz_aabb_is_include_point(bgz_aabb2 b, bgz_vec2 p);
+
+/* (low + high) * 0.5, by component. */
+bgz_vec2 bgz_aabb_center(bgz_aabb2 b);
+
+/*
+ * The box from p - radius to p + radius.
+ * Refused: BGZ_RADIUS if radius is not at least 0, as with a NaN.
+ */
+bgz_box_answer bgz_aabb2_from_point(bgz_vec2 p, float radius);
+
+/* The box around the two boxes from p - radius to p + radius and from q - radius to q + radius. Any radius is taken. */
+bgz_aabb2 bgz_aabb2_from_two_points(bgz_vec2 p, bgz_vec2 q, float radius);
+
+/* The box around two boxes: minimum of the low corners, maximum of the high ones. */
+bgz_aabb2 bgz_aabb2_from_two_aabbs(bgz_aabb2 a, bgz_aabb2 b);
+
+/*
+ * b widened to hold the box from p - radius to p + radius.
+ * Refused: BGZ_RADIUS if radius is not at least 0, as with a NaN.
+ */
+bgz_box_answer bgz_aabb2_add_point(bgz_aabb2 b, bgz_vec2 p, float radius);
+
+/* The same answer and refusal; inside, the box is widened where it stands. */
+bgz_box_answer bgz_aabb2_add_point_lent(bgz_aabb2 b, bgz_vec2 p, float radius);
+
+/*
+ * The pixels of an image of width by height whose centres lie in b, low edge in and high edge out. x0 and y0 are not held to
+ * the image, so x0 may be above x1, and y0 above y1: then there are none. A NaN in the low corner gives 0, and in the high
+ * corner the whole side. A side may be 0.
+ * Refused: BGZ_SIZE if width or height is above 16,384.
+ */
+bgz_pixels_answer bgz_aabb2_rasterize(bgz_aabb2 b, size_t width, size_t height);
+
+/* The same as bgz_aabb_center. */
+bgz_vec2 bgz_aabb2_center(bgz_aabb2 b);
+
+/* The longer of the two sides, high - low. */
+float bgz_aabb2_max_edge_size(bgz_aabb2 b);
+
+/*
+ * The box around the images of the four corners of b under m.
+ * Refused: BGZ_NO_IMAGE if a corner has none (bgz_mat3_transform_homogeneous).
+ */
+bgz_box_answer bgz_aabb2_transform_homogeneous(bgz_aabb2 b, bgz_mat3 m);
+
+/*
+ * The transform that takes b into the unit square, both axes scaled by 1 / (the longer side), the centre to (0.5, 0.5).
+ * A box whose longer side is 0 gives infinities or NaN.
+ */
+bgz_mat3 bgz_aabb2_to_transformation_world2unit_ortho_preserve_asp(bgz_aabb2 b);
+
+/* The same as bgz_aabb_is_include_point. */
+bool bgz_aabb2_is_include_point2(bgz_aabb2 b, bgz_vec2 p);
+
+/* Whether the square from p - radius to p + radius overlaps b. Touching is not overlapping. */
+bool bgz_aabb2_is_intersect_square(bgz_aabb2 b, bgz_vec2 p, float radius);
+
+/*
+ * The point of b that is nearest to p; p itself if it is in b. A NaN in p is kept.
+ * Refused: BGZ_ORDER if b is not low <= high in x, then in y, as with a NaN.
+ */
+bgz_point_answer bgz_aabb2_nearest_point2(bgz_aabb2 b, bgz_vec2 p);
+
+/* The signed distance from p to the edge of b: positive outside, negative inside. */
+float bgz_aabb2_sdf(bgz_aabb2 b, bgz_vec2 p);
+
+/* b with its sides s times as long, about its centre. A negative s exchanges the corners. */
+bgz_aabb2 bgz_aabb2_scale(bgz_aabb2 b, float s);
+
+/* b moved by t. */
+bgz_aabb2 bgz_aabb2_translate(bgz_aabb2 b, bgz_vec2 t);
+
+/*
+ * The tiles that b overlaps, on a sheet of shape_width by shape_height square tiles of side size. Columns from
+ * floor(min_x / size) up to and with floor(max_x / size), rows likewise, each quotient rounded; those off the sheet are
+ * skipped. A tile's number is row * shape_width + column. A box reversed in x has a column only if both ends lie in it, and
+ * likewise a row in y. A side of the shape may be 0.
+ * Writes the numbers, rising, to the start of out and answers how many; 0 is an answer too.
+ * Refused: BGZ_SIZE if size is 0 or above 4,096, or shape_width or shape_height is above 16,384; BGZ_COORDINATE if a
+ * coordinate of b is not finite or is above 1,048,576 in size; BGZ_ROOM if out is shorter than the tiles.
+ */
+bgz_count_answer bgz_aabb2_overlapping_tiles(bgz_aabb2 b, size_t size, size_t shape_width, size_t shape_height,
+                                             uint32_t *out, size_t out_length);
+
+/* ---- upright boxes in a flat list of floats: min_x, min_y, max_x, max_y of each in turn */
+
+/* How many whole boxes the list has: its length / 4. */
+size_t bgz_aabb2_count(const float *all, size_t all_length);
+
+/*
+ * The box at an index, from 0.
+ * Refused: BGZ_INDEX if index is not below the number of whole boxes.
+ */
+bgz_box_answer bgz_aabb2_from_aabbs(const float *all, size_t all_length, size_t index);
+
+/*
+ * The first box.
+ * Refused: BGZ_INDEX if the list has fewer than 4 floats.
+ */
+bgz_box_answer bgz_aabb2_from_slice(const float *s, size_t s_length);
+
+/* ---- turned boxes */
+
+/* c + u + v, c - u + v, c - u - v, c + u - v. */
+bgz_corners bgz_obb2_corner_points(bgz_obb2 o);
+
+/* Whether p is in o, edges included, by its dot products with u and v. A product that is a NaN counts as inside. */
+bool bgz_obb2_is_include_point2(bgz_obb2 o, bgz_vec2 p);
+
+/*
+ * p itself if bgz_obb2_is_include_point2 says so; else the nearest of the four edges' nearest points, the first of equals.
+ * Refused: BGZ_NAN_LENGTH if p is not included and its distance to one of the four is a NaN.
+ */
+bgz_point_answer bgz_obb2_nearest_point2(bgz_obb2 o, bgz_vec2 p);
+
+/*
+ * Whether a turned and an upright box meet: no if on some axis (x, y, and those across u and v) the computed projections of
+ * the corners of one lie strictly below those of the other. Boxes that only touch meet.
+ */
+bool bgz_obb2_is_intersect_aabb2(bgz_obb2 o, bgz_aabb2 b);
+
+/* Whether two turned boxes meet, on the axes across the half edges of a and of b. The order of a and b does not matter. */
+bool bgz_obb2_is_intersect_obb2(bgz_obb2 a, bgz_obb2 b);
+
+/*
+ * ---- hatch lists
+ *
+ * The bytes of a hatch list are `HSL`, a 16-bit version, which is 1, a 16-bit count n of at most 2,000, and n records of
+ * eight floats: box (min_x, min_y, max_x, max_y), origin (x, y), direction (x, y). Little-endian; 7 + 32 n bytes in all.
+ * 16,000 entries are room for every file.
+ */
+
+/*
+ * Reads the floats of the records. A float may have any bits; every NaN is read as a NaN of any bits.
+ * Writes the 8 * count floats to the start of out and answers version and count.
+ * Refused: BGZ_MARK if the bytes do not begin with `HSL`; BGZ_LENGTH if they are fewer than 7; BGZ_VERSION if the version is
+ * not 1; BGZ_COUNT if the count is above 2,000; BGZ_LENGTH if they are not 7 + 32 * count; BGZ_ROOM if out is shorter than
+ * 8 * count.
+ */
+bgz_read_answer bgz_hatch_read_floats(const uint8_t *bytes, size_t bytes_length, float *out, size_t out_length);
+
+/* The same with each float as its bits, so that a NaN keeps them. The same answer and refusals. */
+bgz_read_answer bgz_hatch_read_patterns(const uint8_t *bytes, size_t bytes_length, uint32_t *out, size_t out_length);
+
+/*
+ * Reads a hatch list into floats as bgz_hatch_read_floats does, clips each record as a line, and writes a report to the
+ * start of out: `HSL`, version and count; then for each record a line with its place from 1 and `miss`, or `hit` with tmin
+ * and tmax as eight hexadecimal digits of their bits, any zero as 00000000. Fields stand one space apart, and a line ends in
+ * \n. For a list that is refused it writes `refused` and the number, and leaves floats as they are.
+ * Answers how many bytes it wrote. Bytes that have no room in out are left out; 54,014 are room for every report.
+ */
+size_t bgz_hatch_report(const uint8_t *bytes, size_t bytes_length, float *floats, size_t floats_length,
+                        uint8_t *out, size_t out_length);
+
+#ifdef __cplusplus
+}
+#endif
+
+#endif
