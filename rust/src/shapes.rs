@@ -1,13 +1,15 @@
 //! Shapes as the library takes and returns them (crates/types).
 
-#[derive(Clone, Copy, Debug)]
+/// A point or a vector.
+#[derive(Clone, Copy, Debug, PartialEq)]
 #[repr(C)]
 pub struct Vec2 {
     pub x: f32,
     pub y: f32,
 }
 
-#[derive(Clone, Copy, Debug)]
+/// The numbers from low to high.
+#[derive(Clone, Copy, Debug, PartialEq)]
 #[repr(C)]
 pub struct Range {
     pub low: f32,
@@ -15,7 +17,7 @@ pub struct Range {
 }
 
 /// An upright box.
-#[derive(Clone, Copy, Debug)]
+#[derive(Clone, Copy, Debug, PartialEq)]
 #[repr(C)]
 pub struct Aabb2 {
     pub min_x: f32,
@@ -25,22 +27,22 @@ pub struct Aabb2 {
 }
 
 /// A turned box: its centre and two half edges.
-#[derive(Clone, Copy, Debug)]
+#[derive(Clone, Copy, Debug, PartialEq)]
 #[repr(C)]
 pub struct Obb2(pub [f32; 6]);
 
 /// Four corners, each joined to the next by an edge.
-#[derive(Clone, Copy, Debug)]
+#[derive(Clone, Copy, Debug, PartialEq)]
 #[repr(C)]
 pub struct Corners(pub [Vec2; 4]);
 
 /// A 3 by 3 matrix in column-major order.
-#[derive(Clone, Copy, Debug)]
+#[derive(Clone, Copy, Debug, PartialEq)]
 #[repr(C)]
 pub struct Mat3(pub [f32; 9]);
 
 /// A point of an edge, and its ratio along the edge.
-#[derive(Clone, Copy, Debug)]
+#[derive(Clone, Copy, Debug, PartialEq)]
 #[repr(C)]
 pub struct OnEdge {
     pub ratio: f32,

@@ -12,6 +12,7 @@ mod raw {
     }
 }
 
+/// The image of a point, or none where the computed denominator is zero.
 #[inline]
 pub fn transform_homogeneous(m: Mat3, p: Vec2) -> Option<Vec2> {
     raw::transform_homogeneous(m, p).option()

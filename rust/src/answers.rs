@@ -1,6 +1,7 @@
 //! Answers of the C ABI, and what they say in Rust: an option where there may be none, a result where
 //! the call may be refused. The error is the refusal's number.
 
+use crate::hatch::Records;
 use crate::shapes::{Aabb2, Vec2};
 
 /// The status of no answer. 0 is an answer, any other number a refusal.
@@ -43,6 +44,13 @@ pub struct PixelsAnswer {
 #[repr(C)]
 pub struct CountAnswer {
     status: u32,
+    count: usize,
+}
+
+#[repr(C)]
+pub struct ReadAnswer {
+    status: u32,
+    version: usize,
     count: usize,
 }
 
@@ -95,6 +103,13 @@ impl CountAnswer {
     #[inline]
     pub fn result(self) -> Result<usize, u32> {
         result(self.status, self.count)
+    }
+}
+
+impl ReadAnswer {
+    #[inline]
+    pub fn result(self) -> Result<Records, u32> {
+        result(self.status, Records { version: self.version, count: self.count })
     }
 }
 

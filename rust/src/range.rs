@@ -15,11 +15,13 @@ mod raw {
     }
 }
 
+/// The gap between two ranges, or none where they touch or overlap. Refused: `ORDER`.
 #[inline]
 pub fn distance_to_range(a: Range, b: Range) -> Result<Option<f32>, u32> {
     raw::distance_to_range(a, b).option()
 }
 
+/// The length that two ranges share, or none where they touch or lie apart. Refused: `ORDER`.
 #[inline]
 pub fn intersection_length(a: Range, b: Range) -> Result<Option<f32>, u32> {
     raw::intersection_length(a, b).option()
