@@ -1,0 +1,116 @@
+//! Clips a hatch list, then lists the pixels of two strokes and the tiles of a box.
+//!
+//! ```text
+//! ./install PREFIX
+//! cd examples/rust
+//! BAGNOSZYK_STATICLIB=PREFIX/lib cargo run -- ../section.hsl
+//! ```
+
+use bagnoszyk::shapes::{Aabb2, Vec2};
+use bagnoszyk::{aabb, aabb2, edge2, hatch};
+use std::process::ExitCode;
+use std::{env, fs};
+
+/// The longest hatch list has 2,000 records.
+const FLOATS: usize = 8 * 2000;
+
+/// A hatch line, and the box of the face that it fills.
+struct Line {
+    face: Aabb2,
+    origin: Vec2,
+    direction: Vec2,
+}
+
+impl Line {
+    fn new(record: &[f32; 8]) -> Self {
+        let [min_x, min_y, max_x, max_y, x, y, dx, dy] = *record;
+        let face = Aabb2 { min_x, min_y, max_x, max_y };
+        Line { face, origin: Vec2 { x, y }, direction: Vec2 { x: dx, y: dy } }
+    }
+
+    fn clip(&self) -> Option<(f32, f32)> {
+        aabb::intersections_against_line(self.face, self.origin, self.direction)
+    }
+
+    fn rises(&self) -> bool {
+        let Vec2 { x, y } = self.direction;
+        (x > 0.0 && y > 0.0) || (x < 0.0 && y < 0.0)
+    }
+
+    fn falls(&self) -> bool {
+        let Vec2 { x, y } = self.direction;
+        (x > 0.0 && y < 0.0) || (x < 0.0 && y > 0.0)
+    }
+
+    fn point_at(&self, t: f32) -> Vec2 {
+        let (origin, direction) = (self.origin, self.direction);
+        Vec2 { x: origin.x + t * direction.x, y: origin.y + t * direction.y }
+    }
+}
+
+/// The ends of the first line that does more than touch its box.
+fn print_first(kind: &str, lines: &[&Line]) {
+    let found = lines.iter().find_map(|line| {
+        let (tmin, tmax) = line.clip()?;
+        (tmin < tmax).then(|| (line.point_at(tmin), line.point_at(tmax)))
+    });
+    if let Some((from, to)) = found {
+        println!("first {kind} line: ({:.3}, {:.3}) to ({:.3}, {:.3})", from.x, from.y, to.x, to.y);
+    }
+}
+
+fn print_section(lines: &[Line]) {
+    let hits = lines.iter().filter(|line| line.clip().is_some()).count();
+    let rising: Vec<_> = lines.iter().filter(|line| line.rises()).collect();
+    let falling: Vec<_> = lines.iter().filter(|line| line.falls()).collect();
+    let count = lines.len();
+    println!("{count} lines: {hits} hit, {} rise, {} fall", rising.len(), falling.len());
+    print_first("rising", &rising);
+    print_first("falling", &falling);
+}
+
+fn print_list(what: &str, list: &[u32]) {
+    let entries: Vec<_> = list.iter().map(u32::to_string).collect();
+    println!("{what}: {}", entries.join(" "));
+}
+
+/// The error is the number of a refusal.
+fn run(bytes: &[u8]) -> Result<(), u32> {
+    let mut floats = vec![0.0; FLOATS];
+    let records = hatch::read_floats(bytes, &mut floats)?;
+    let (records, _) = floats[..8 * records.count].as_chunks();
+    print_section(&records.iter().map(Line::new).collect::<Vec<_>>());
+
+    // A stroke and its falling twin, in an image of 8 by 8 pixels.
+    let mut list = [0; 16];
+    let strokes = [("rising", [0.5, 0.5], [3.5, 3.5]), ("falling", [0.5, 3.5], [3.5, 0.5])];
+    for (kind, from, to) in strokes {
+        let count = edge2::overlapping_pixels_dda(8, 8, from.into(), to.into(), &mut list)?;
+        print_list(&format!("{kind} stroke"), &list[..count]);
+    }
+
+    // A box on a sheet of 4 by 3 tiles of side 16.
+    let face = Aabb2 { min_x: 10.0, min_y: 10.0, max_x: 40.0, max_y: 20.0 };
+    let count = aabb2::overlapping_tiles(face, 16, 4, 3, &mut list)?;
+    print_list("tiles", &list[..count]);
+
+    // The same with a list that is one entry too short: the call is refused, and the list keeps its entries.
+    let mut kept = [9; 5];
+    if let Err(number) = aabb2::overlapping_tiles(face, 16, 4, 3, &mut kept) {
+        println!("refusal: {number}");
+    }
+    print_list("list", &kept);
+    Ok(())
+}
+
+fn main() -> ExitCode {
+    let Some(bytes) = env::args().nth(1).and_then(|path| fs::read(path).ok()) else {
+        eprintln!("usage: section FILE");
+        return ExitCode::from(2);
+    };
+    if let Err(number) = run(&bytes) {
+        eprintln!("refused {number}");
+        return ExitCode::FAILURE;
+    }
+    ExitCode::SUCCESS
+}
