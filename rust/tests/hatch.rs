@@ -1,0 +1,77 @@
+//! The hatch list through the C ABI: what is read, what is reported, each refusal, and what becomes of the lent lists.
+
+use bagnoszyk::hatch::{self, Records};
+use bagnoszyk::refusal::{COUNT, LENGTH, MARK, ROOM, VERSION};
+
+const SECTION: &[u8] = include_bytes!("../../examples/section.hsl");
+const REPORT: &[u8] = include_bytes!("../../crates/hatch_clip/stdout");
+const RECORDS: Records = Records { version: 1, count: 306 };
+
+/// Stands in every entry before a call.
+const MARKED: u32 = 0x5a5a_5a5a;
+
+fn words() -> impl Iterator<Item = u32> {
+    SECTION[7..].chunks_exact(4).map(|w| u32::from_le_bytes(w.try_into().unwrap()))
+}
+
+#[test]
+fn patterns_are_the_words_of_the_file() {
+    let mut out = vec![MARKED; 8 * 306 + 5];
+    assert_eq!(hatch::read_patterns(SECTION, &mut out), Ok(RECORDS));
+    assert!(out.iter().copied().eq(words().chain([MARKED; 5])));
+}
+
+#[test]
+fn floats_have_those_bits() {
+    let mut out = vec![f32::from_bits(MARKED); 8 * 306 + 5];
+    assert_eq!(hatch::read_floats(SECTION, &mut out), Ok(RECORDS));
+    assert!(out.iter().map(|x| x.to_bits()).eq(words().chain([MARKED; 5])));
+}
+
+#[test]
+fn the_report_is_what_the_program_prints() {
+    let (mut floats, mut out) = ([0.0; 16_000], [0xff; 54_014]);
+    let length = hatch::report(SECTION, &mut floats, &mut out);
+    assert_eq!(&out[..length], REPORT);
+    assert!(out[length..].iter().all(|&byte| byte == 0xff));
+}
+
+#[test]
+fn a_report_with_no_room_is_cut() {
+    let (mut floats, mut out) = ([0.0; 16_000], [0; 100]);
+    assert_eq!(hatch::report(SECTION, &mut floats, &mut out), 100);
+    assert_eq!(out, REPORT[..100]);
+}
+
+#[test]
+fn a_refusal_gives_its_number_and_changes_nothing() {
+    let edited = |at: usize, byte: u8| {
+        let mut bytes = SECTION.to_vec();
+        bytes[at] = byte;
+        bytes
+    };
+    // The second byte of the count: 0x0832 records.
+    let too_many = edited(6, 8);
+    let cases: [(&[u8], usize, u32); 8] = [
+        (b"", 16_000, MARK),
+        (&edited(2, b'l'), 16_000, MARK),
+        (&SECTION[..6], 16_000, LENGTH),
+        (&edited(3, 2), 16_000, VERSION),
+        (&too_many, 16_000, COUNT),
+        (&SECTION[..SECTION.len() - 1], 16_000, LENGTH),
+        (SECTION, 8 * 306 - 1, ROOM),
+        (SECTION, 0, ROOM),
+    ];
+    for (bytes, room, number) in cases {
+        let mut patterns = vec![MARKED; room];
+        assert_eq!(hatch::read_patterns(bytes, &mut patterns), Err(number));
+        assert!(patterns.iter().all(|&x| x == MARKED));
+
+        let mut floats = vec![f32::from_bits(MARKED); room];
+        assert_eq!(hatch::read_floats(bytes, &mut floats), Err(number));
+        let mut out = [0; 100];
+        let length = hatch::report(bytes, &mut floats, &mut out);
+        assert_eq!(out[..length], *format!("refused {number}\n").as_bytes());
+        assert!(floats.iter().all(|x| x.to_bits() == MARKED));
+    }
+}
