@@ -3,11 +3,12 @@
  *
  * Calls. Every routine takes any bits in every number, NaN and infinities among them, ends, and gives an answer, none, or
  * the number of a refusal. It keeps no state, allocates nothing and calls nothing outside the library, so threads may call
- * at the same time; a list that one call writes must be in use by no other call.
+ * at the same time; a list that one call writes must be in use by no other call. It is built for x86-64 Linux.
  *
- * Answers. A struct bgz_..._answer has a status: BGZ_ANSWERED (0), BGZ_NONE (255), or a bgz_refusal. Where the status is not
- * 0, every other field is 0. A routine that returns no such struct refuses nothing. Conditions of a refusal are listed in
- * the order in which they are tested; the first that holds gives the number.
+ * Answers. A struct bgz_..._answer has a status: BGZ_ANSWERED (0), BGZ_NONE (255), or the number of a refusal. Where the
+ * status is not 0, every other field is 0. A routine that returns no such struct refuses nothing, but for bgz_hatch_report,
+ * which writes the refusal as text. Conditions of a refusal are listed in the order in which they are tested; the first that
+ * holds gives the number. A status of 255 is given only by routines whose comment says when there is none.
  *
  * Floats. Each operation is rounded to the nearest float, ties to even, as IEEE 754 has it. The caller must leave the
  * rounding mode as it is at the start of a program, and subnormal numbers on: a program linked with -ffast-math may turn
@@ -18,7 +19,7 @@
  * Lists. A list is a pointer to its first entry and the number of its entries. The pointer must not be null, even if the
  * length is 0, and must be aligned for its type; that many entries must be readable, and writable unless the pointer is to
  * const. Lists of one call must not overlap. A routine that writes to a list says which entries it writes; the entries
- * beyond them are left as they are. A refused call changes no list, except that bgz_hatch_report writes the refusal as text.
+ * beyond them are left as they are. A refused call changes no list, but for the text of bgz_hatch_report.
  */
 #ifndef BAGNOSZYK_H
 #define BAGNOSZYK_H
@@ -33,7 +34,7 @@ extern "C" {
 
 /* ---- the status of an answer */
 
-enum bgz_refusal {
+enum bgz_status {
     BGZ_ANSWERED = 0,    /* no refusal: the answer is in the other fields */
     BGZ_ROOM = 1,        /* a lent list is shorter than what is to be written */
     BGZ_SAME_ENDS = 2,   /* both ends of a stroke are equal */
@@ -334,7 +335,8 @@ bgz_vec2 bgz_aabb2_center(bgz_aabb2 b);
 float bgz_aabb2_max_edge_size(bgz_aabb2 b);
 
 /*
- * The box around the images of the four corners of b under m.
+ * The box around the images of the four corners of b under m. A coordinate that is a NaN is left out; where all four are,
+ * the box goes from +infinity to -infinity.
  * Refused: BGZ_NO_IMAGE if a corner has none (bgz_mat3_transform_homogeneous).
  */
 bgz_box_answer bgz_aabb2_transform_homogeneous(bgz_aabb2 b, bgz_mat3 m);
