@@ -2,7 +2,7 @@
 -- At the digit of weight `bit`, `root` has the digits above it, and rest * bit is what its square leaves of n.
 use mathlib.Core.Path.{_≡_, sym, ap, _∙_, subst}
 use Prim.Native.Nat.{ℕ, zero, suc, _+_, _-_, _*_, _/_, _^_, _≤_, _<_}
-use native.Mathlib.Nat.{add-mul, mul-add, mul-one, pow-succ', mul-div-cancel-left, zero-lt-suc}
+use native.Mathlib.Nat.{add-mul, mul-add, mul-one, zero-mul, pow-succ', mul-div-cancel-left, zero-lt-suc}
 use native.Mathlib.Nat.{le-of-eq, le-trans, le-of-suc-le-suc, mul-lt-mul-of-pos-right, lt-of-mul-lt-mul-right}
 use native.Mathlib.Omega.{arith}
 use lib.Pow.{pow-mono, pow-pos}
@@ -54,6 +54,12 @@ pub last-digit : {n root rest bit : ℕ} → bit ≡ 1 → Chosen n root rest bi
 last-digit {n} {root} {rest} {bit} e d =
     let one : rest * bit ≡ rest = ap (λ (x : ℕ). rest * x) e ∙ mul-one rest in
     record { square = omega arith; next = rw e at (d .bound) }
+
+-- ---- where nothing is left over, the digits below are all 0
+pub nothing-left : {n root rest bit : ℕ} → rest ≡ 0 → Chosen n root rest bit → IsWholeRoot n root rest
+nothing-left {n} {root} {rest} {bit} e d =
+    let none : rest * bit ≡ 0 = ap (λ (x : ℕ). x * bit) e ∙ zero-mul bit in
+    record { square = omega arith; next = omega (arith, square-add root 1) }
 
 -- ---- bounds, so that no sum wraps
 pub weight-positive : {bit : ℕ} (i : ℕ) → bit ≡ 2 ^ i → 0 < bit
