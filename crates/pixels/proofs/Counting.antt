@@ -1,6 +1,6 @@
 -- The positions in the image, counted one after the other. Assumes nothing.
 use mathlib.Core.Path.{_≡_, sym, ap, _∙_}
-use Prim.Native.Nat.{ℕ, _+_, _-_, _≤_, _<_}
+use Prim.Native.Nat.{ℕ, _+_, _-_, _≤_}
 use native.Mathlib.Numerals.{add-one}
 use native.Mathlib.Omega.{arith}
 use lib.ListN.{length}
@@ -12,23 +12,21 @@ use Rattle.pixels.specs.Lists.{oneIf, entered, entered-none, entered-mor
 use Rattle.pixels.specs.Post.{first, next}
 use Rattle.pixels.proofs.Walking.{first-is, next-is}
 
--- p is position k of at most `last`, and n of the positions before are in the image
-pub record Counting (w h : ℕ) (a b : Axis) (last : ℕ) (p : Vec2) (n k : ℕ) : Type 0 where
+-- p is position k, and n of the positions before are in the image
+pub record Counting (w h : ℕ) (a b : Axis) (p : Vec2) (n k : ℕ) : Type 0 where
   pub position-is : p ≡ position a b k
-  pub going : k ≤ last
   pub count : n ≡ length (entered w h a b k)
 
-pub counting-none : (w h : ℕ) (a b : Axis) (last : ℕ) (p : Vec2) → p ≡ first a b → Counting w h a b last p 0 0
-counting-none w h a b last p e = record { position-is = first-is a b p e; going = omega arith; count = sym (ap length (entered-none w h a b)) }
+pub counting-none : (w h : ℕ) (a b : Axis) (p : Vec2) → p ≡ first a b → Counting w h a b p 0 0
+counting-none w h a b p e = record { position-is = first-is a b p e; count = sym (ap length (entered-none w h a b)) }
 
-module _ {w h : ℕ} {a b : Axis} {last : ℕ} {p : Vec2} {n k : ℕ} (g : Counting w h a b last p n k) where
+module _ {w h : ℕ} {a b : Axis} {p : Vec2} {n k : ℕ} (g : Counting w h a b p n k) where
   pub counting-few : n ≤ k
   counting-few = omega (arith, g .count, entered-few w h a b k)
 
-  pub counting-more : k < last → (q : Vec2) → q ≡ next a b p → (m : ℕ) → m ≡ n + oneIf (onImage w h p) → Counting w h a b last q m (k + 1)
-  counting-more less q e m f = record {
+  pub counting-more : (q : Vec2) → q ≡ next a b p → (m : ℕ) → m ≡ n + oneIf (onImage w h p) → Counting w h a b q m (k + 1)
+  counting-more q e m f = record {
     position-is = next-is a b p q k (g .position-is) e;
-    going = omega arith;
     count =
         f ∙ ap (λ (i : ℕ). i + oneIf (onImage w h p)) (g .count)
         ∙ ap (λ (r : Vec2). length (entered w h a b k) + oneIf (onImage w h r)) (g .position-is)
@@ -36,10 +34,7 @@ module _ {w h : ℕ} {a b : Axis} {last : ℕ} {p : Vec2} {n k : ℕ} (g : Count
   }
 
   -- no more than among the first `last`
-  pub counting-le : n ≤ length (entered w h a b last)
-  counting-le =
-      let e : k + (last - k) ≡ last = omega (arith, g .going) in
+  pub counting-le : (last : ℕ) → k ≤ last → n ≤ length (entered w h a b last)
+  counting-le last going =
+      let e : k + (last - k) ≡ last = omega arith in
       omega (arith, g .count, entered-le w h a b k (last - k), ap (λ (i : ℕ). length (entered w h a b i)) e)
-
-  pub counting-end : last ≤ k → n ≡ length (entered w h a b last)
-  counting-end out = g .count ∙ ap (λ (i : ℕ). length (entered w h a b i)) (omega (arith, g .going))

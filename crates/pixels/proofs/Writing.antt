@@ -17,7 +17,7 @@ use Rattle.pixels.specs.Entries.{onImage, number, keepIf}
 use Rattle.pixels.specs.Ends.{Sized, at-size}
 use Rattle.pixels.specs.Lists.{oneIf, setIf, entered, entered-none, entered-suc, entered-more, entered-le}
 use Rattle.pixels.specs.Post.{first, next, Drawn, Bounded, Entered, closed, Written}
-use Rattle.pixels.proofs.Counting.{Counting, counting-none, counting-le, counting-more, counting-end}
+use Rattle.pixels.proofs.Counting.{Counting, counting-none, counting-le, counting-more}
 
 -- a position of an accepted walk
 at-bounded : {a : Axis} → Sized a → (k : ℕ) → k ≤ 131074 → Size 196610 (at a k)
@@ -34,20 +34,25 @@ store-at : (E l : List ℕ) (n v : ℕ) → n ≡ length E → n < length l → 
 store-at E l n v e h =
     ap (λ (t : List ℕ). set (E ++ t) n v) (drop-cons l n 0 h) ∙ set-at E (getD l n 0) (drop (suc n) l) v n (sym e) ∙ sym (append-snoc E v (drop (suc n) l))
 
--- n entries of the positions before k stand in `list`, which was l
+-- k is at most `last`, and n entries of the positions before k stand in `list`, which was l
 pub record Writing (w h : ℕ) (a b : Axis) (last : ℕ) (l list : List ℕ) (p : Vec2) (n k : ℕ) : Type 0 where
-  pub counting : Counting w h a b last p n k
+  pub counting : Counting w h a b p n k
+  pub going : k ≤ last
   pub written : list ≡ entered w h a b k ++ drop n l
 
 pub writing-none : (w h : ℕ) (a b : Axis) (last : ℕ) (l : List ℕ) (p : Vec2) → p ≡ first a b → Writing w h a b last l l p 0 0
-writing-none w h a b last l p e = record { counting = counting-none w h a b last p e; written = sym (ap (λ (t : List ℕ). t ++ l) (entered-none w h a b)) }
+writing-none w h a b last l p e = record {
+  counting = counting-none w h a b p e;
+  going = omega arith;
+  written = sym (ap (λ (t : List ℕ). t ++ l) (entered-none w h a b));
+}
 
 module _ {w h : ℕ} {a b : Axis} {last : ℕ} {l list : List ℕ} {p : Vec2} {n k : ℕ} (g : Writing w h a b last l list p n k)
     (room : length (entered w h a b last) ≤ length l) where
   pub writing-length : length list ≡ length l
   writing-length =
       ap length (g .written) ∙ length-append (entered w h a b k) (drop n l)
-      ∙ omega (arith, counting-le (g .counting), room, g .counting .count, length-drop n l)
+      ∙ omega (arith, counting-le (g .counting) last (g .going), room, g .counting .count, length-drop n l)
 
   -- position k is one of the first `last`: there is room for its entry
   left : k < last → onImage w h p ≡ true → n < length l
@@ -70,7 +75,8 @@ module _ {w h : ℕ} {a b : Axis} {last : ℕ} {l list : List ℕ} {p : Vec2} {n
   pub writing-more : k < last → (q : Vec2) → q ≡ next a b p → (m : ℕ) → m ≡ n + oneIf (onImage w h p)
       → (list' : List ℕ) → list' ≡ setIf (onImage w h p) list n (number w p) → Writing w h a b last l list' q m (k + 1)
   writing-more less q e m f list' s = record {
-    counting = counting-more (g .counting) less q e m f;
+    counting = counting-more (g .counting) q e m f;
+    going = omega arith;
     written =
         s ∙ ap (λ (t : List ℕ). setIf (onImage w h p) t n (number w p)) (g .written) ∙ go (onImage w h p) refl
         ∙ ap (λ (i : ℕ). (E ++ keepIf (onImage w h p) (number w p) []) ++ drop i l) (sym f)
@@ -87,10 +93,10 @@ module _ {w h : ℕ} {a b : Axis} {last : ℕ} {l list : List ℕ} {p : Vec2} {n
 
   pub writing-end : last ≤ k → (r : Reached) → r .count ≡ n → r .position ≡ p → Entered w h a b last r l list
   writing-end out r c i =
-      let s : k ≡ last = omega (arith, g .counting .going) in
+      let s : k ≡ last = omega (arith, g .going) in
       record {
         position-is = i ∙ g .counting .position-is ∙ ap (position a b) s;
-        count-is = c ∙ counting-end (g .counting) out;
+        count-is = c ∙ g .counting .count ∙ ap (λ (m : ℕ). length (entered w h a b m)) s;
         list-is =
             g .written ∙ ap (λ (m : ℕ). entered w h a b k ++ drop m l) (g .counting .count)
             ∙ ap (λ (m : ℕ). entered w h a b m ++ drop (length (entered w h a b m)) l) s;

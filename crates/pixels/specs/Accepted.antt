@@ -85,6 +85,12 @@ cond-size : (t : Bool) (k : ℕ) (x y : Float) → Size k x → Size k y → Siz
 cond-size true k x y h i = i
 cond-size false k x y h i = h
 
+abs-size : (k : ℕ) (x : Float) → Size k x → Size k (absOf x)
+unfolding absOf
+abs-size k nan h = h
+abs-size k (inf s) h = h
+abs-size k (fin s m e) h = h
+
 epsilon-size : Size 1 epsilon
 unfolding ofBits
 epsilon-size = lit≤ tt
@@ -105,6 +111,15 @@ module _ {p q : Vec2} (w : Accepted p q) where
     where
       nonzero : NonZero (q .x ⊖ p .x) ⊎ NonZero (q .y ⊖ p .y)
       nonzero = elim (w .differ) [ inl h ↦ inl (difference-nonzero (w .x0) (w .x1) h) | inr h ↦ inr (difference-nonzero (w .y0) (w .y1) h) ]
+
+  pub step-size : Size 131072 (stepOf p q)
+  unfolding stepOf maxOf
+  step-size =
+      let x = absOf (q .x ⊖ p .x) in
+      let y = absOf (q .y ⊖ p .y) in
+      cond-size (isNan x || lt x y) 131072 x y
+      (abs-size 131072 (q .x ⊖ p .x) (difference-size (w .x0) (w .x1)))
+      (abs-size 131072 (q .y ⊖ p .y) (difference-size (w .y0) (w .y1)))
 
   pub sized-x : Sized (alongX p q)
   sized-x = axis-sized (stepOf p q) (p .x) (q .x) (w .x0 .size) (w .x1 .size) (slopes-of .first-size)

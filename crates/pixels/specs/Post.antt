@@ -2,12 +2,14 @@
 use mathlib.Core.Path.{_≡_}
 use mathlib.Core.List.{List, [], _∷_, _++_}
 use Prim.Native.Nat.{ℕ, _≤_}
+use lib.Dec.{ltb}
 use lib.ListN.{length, drop}
 use Rattle.types.specs.declared.shape.Vec2.{Vec2}
 use Rattle.float.specs.Rounded.{_⊕_}
 use Rattle.pixels.specs.declared.axis.Axis.{Axis}
+use Rattle.pixels.specs.declared.walk.Extent.{Extent}
 use Rattle.pixels.specs.declared.walk.Reached.{Reached}
-use Rattle.pixels.specs.Walk.{position}
+use Rattle.pixels.specs.Walk.{position, exit}
 use Rattle.pixels.specs.Entries.{number}
 use Rattle.pixels.specs.Size.{Size}
 use Rattle.pixels.specs.Ends.{Sized}
@@ -36,8 +38,15 @@ pub record Bounded (p : Vec2) : Type 0 where
   pub x-size : Size 196610 (p .x)
   pub y-size : Size 196610 (p .y)
 
--- ---- what is handed on: the list l was lent, and is l' afterwards
+-- ---- what is handed on
 
+-- where the walk leaves, and whether a list of this length takes its entries and a closing one
+pub record Extends (w h : ℕ) (a b : Axis) (room : ℕ) (r : Extent) : Type 0 where
+  pub last-is : r .last ≡ exit a b
+  pub last-le : r .last ≤ 131074
+  pub fits-is : r .fits ≡ ltb (length (entered w h a b (r .last))) room
+
+-- the list l was lent, and is l' afterwards:
 -- with the entries of the first k positions
 pub record Entered (w h : ℕ) (a b : Axis) (k : ℕ) (r : Reached) (l l' : List ℕ) : Type 0 where
   pub position-is : r .position ≡ position a b k

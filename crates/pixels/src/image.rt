@@ -28,7 +28,7 @@ pub(crate) fn in_sides(wide: f32, high: f32, p: Vec2) -> bool
 }
 
 // Cut to an integer, a negative one to 0.
-fn cut(x: f32) -> usize
+pub(crate) fn cut(x: f32) -> usize
     requires { ⌜ Size 196610 x ⌝ }
     ensures { λ r. ⌜ (r ≡ toUnsigned 64 x) × (r ≤ 196610) ⌝ }
 {

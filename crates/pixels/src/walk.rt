@@ -8,6 +8,7 @@ use crate::axis::step_of;
 use crate::check::ends_fit;
 use crate::check::same_ends;
 use crate::check::sides_too_large;
+use crate::image::cut;
 use crate::image::in_sides;
 use crate::image::pixel;
 use types::Listed;
@@ -15,14 +16,13 @@ use types::Vec2;
 ghost use mathlib.Core.Path.{_≡_};
 ghost use mathlib.Core.Bool.{true};
 ghost use Prim.Native.Nat.{_+_, _≤_, _<_};
-ghost use lib.Dec.{ltb};
 ghost use lib.ListN.{length};
 ghost use Rattle.pixels.specs.Walk.{exit};
 ghost use Rattle.pixels.specs.Entries.{inSides, number, entries, strokeOf};
 ghost use Rattle.pixels.specs.Answer.{fitted, overlappingPixelsDdaOf, written};
 ghost use Rattle.pixels.specs.Leaves.{Ends};
 ghost use Rattle.pixels.specs.Lists.{oneIf, setIf, entered};
-ghost use Rattle.pixels.specs.Post.{Drawn, Bounded, Entered, Written};
+ghost use Rattle.pixels.specs.Post.{Drawn, Bounded, Extends, Entered, Written};
 
 fn one_if(t: bool) -> usize
     ensures { λ r. ⌜ r ≡ oneIf t ⌝ }
@@ -44,34 +44,49 @@ fn exit_of(a: Axis, b: Axis) -> usize
     k
 }
 
-// How many of the first `last` positions are in the image.
-fn count_inside(width: usize, height: usize, a: Axis, b: Axis, last: usize) -> usize
-    requires { ⌜ (width ≤ 16384) × (height ≤ 16384) ⌝ }
-    ensures { λ r. ⌜ r ≡ length (entered width height a b last) ⌝ }
+// How far the walk goes, and whether a list takes the entries of its positions and a closing one.
+struct Extent {
+    last: usize,
+    fits: bool,
+}
+
+// That of a list of any length: the positions in the image are counted in the walk that finds where it ends.
+fn counted_extent(room: usize, width: usize, height: usize, a: Axis, b: Axis) -> Extent
+    requires { ⌜ (width ≤ 16384) × (height ≤ 16384) × Ends a b ⌝ }
+    ensures { λ r. ⌜ Extends width height a b room r ⌝ }
 {
     let wide = width as f32;
     let high = height as f32;
     let mut p = first(a, b);
     let mut n = 0usize;
     let mut k = 0usize;
-    while k < last {
+    while in_ranges(a, b, p) {
         n += one_if(in_sides(wide, high, p));
         p = next(a, b, p);
         k += 1;
     }
-    n
+    Extent {
+        last: k,
+        fits: n < room,
+    }
 }
 
-// Whether a list of this length takes the entries of the first `last` positions and a closing one.
-// Each position gives one entry at most, so they are counted only for a list that may be too short.
-fn has_room(room: usize, width: usize, height: usize, a: Axis, b: Axis, last: usize) -> bool
-    requires { ⌜ (width ≤ 16384) × (height ≤ 16384) ⌝ }
-    ensures { λ r. ⌜ r ≡ ltb (length (entered width height a b last)) room ⌝ }
+// Each position gives one entry at most, so a list that is longer than the walk is found to fit without a count, which is quicker.
+// `guess`, how many steps are expected, only says which way to try first.
+fn extent_of(room: usize, guess: usize, width: usize, height: usize, a: Axis, b: Axis) -> Extent
+    requires { ⌜ (width ≤ 16384) × (height ≤ 16384) × Ends a b ⌝ }
+    ensures { λ r. ⌜ Extends width height a b room r ⌝ }
 {
-    if last < room {
-        return true;
+    if guess < room {
+        let last = exit_of(a, b);
+        if last < room {
+            return Extent {
+                last: last,
+                fits: true,
+            };
+        }
     }
-    count_inside(width, height, a, b, last) < room
+    counted_extent(room, width, height, a, b)
 }
 
 // Enters the pixel of p at n if p is in the image, and answers the place of the next entry.
@@ -133,14 +148,14 @@ fn write(list: &mut [u32], width: usize, height: usize, a: Axis, b: Axis, last: 
 }
 
 // The entries of the walk, if the list has room for them.
-fn fill(list: &mut [u32], width: usize, height: usize, a: Axis, b: Axis) -> Listed
+fn fill(list: &mut [u32], guess: usize, width: usize, height: usize, a: Axis, b: Axis) -> Listed
     requires { ⌜ Drawn width height a b × Ends a b ⌝ }
     ensures { λ r. ⌜ (r ≡ fitted (entries width height a b) (length (now (list .entry))))
         × (now (list .exit) ≡ written r (entries width height a b) (now (list .entry))) ⌝ }
 {
-    let last = exit_of(a, b);
-    if has_room(list.len(), width, height, a, b, last) {
-        return Listed::Count(write(list, width, height, a, b, last));
+    let e = extent_of(list.len(), guess, width, height, a, b);
+    if e.fits {
+        return Listed::Count(write(list, width, height, a, b, e.last));
     }
     Listed::Refused(types::refusal::ROOM)
 }
@@ -169,5 +184,6 @@ pub fn overlapping_pixels_dda(
     let step = step_of(p0, p1);
     let a = axis_of(step, p0.x, p1.x);
     let b = axis_of(step, p0.y, p1.y);
-    fill(list, width, height, a, b)
+    let guess = cut(step) + 1;
+    fill(list, guess, width, height, a, b)
 }

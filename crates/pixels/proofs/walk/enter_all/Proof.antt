@@ -33,7 +33,7 @@ enter-requires c κs =
     let g = c .before .before .loop in
     let pre = c .before .before .before .before .before .before .before .pre in (
       pre .0 .wide,
-      position-bounded (pre .0) (g .k) (omega (arith, g .inv .counting .going)) (g .p) (g .inv .counting .position-is),
+      position-bounded (pre .0) (g .k) (omega (arith, g .inv .going)) (g .p) (g .inv .counting .position-is),
       writing-in (g .inv) (pre .2) (c .before .loop-test .taken),
     )
 

@@ -1,12 +1,14 @@
 -- `pixels::overlapping_pixels_dda` meets its contract: each refusal by the tests that led there, and else what the walk answers. Assumes nothing.
-use mathlib.Core.Path.{_≡_, refl, sym, ap, _∙_}
+use mathlib.Core.Path.{_≡_, refl, sym, ap, _∙_, subst}
 use mathlib.Core.Bool.{true, false}
 use borrow.Author.Needs.{needs}
 use borrow.Author.Tests.{not-true, not-false}
+use lib.Dec.{lit≤}
 use lib.Ieee.{Float}
-use Rattle.pixels.specs.Walk.{axisOf}
+use Rattle.pixels.specs.Size.{Size, size-wider}
+use Rattle.pixels.specs.Walk.{stepOf, axisOf}
 use Rattle.pixels.specs.Answer.{sidesTooLarge, endsFit, sameEnds, overlappingPixelsDdaOf, written}
-use Rattle.pixels.specs.Accepted.{AreFloats, Accepted, accepted}
+use Rattle.pixels.specs.Accepted.{AreFloats, Accepted, accepted, step-size}
 use Rattle.pixels.proofs.Answers.{Made, made-drawn, made-ends, made-listing}
 use Rattle.pixels.proofs.walk.overlapping_pixels_dda.Statement.{statement}
 use Rattle.pixels.proofs.walk.overlapping_pixels_dda.Tie as tie
@@ -74,10 +76,20 @@ axis-of-requires c κs = search needs
 axis-of-requires-2 : tie.Need-axis-of-requires-2
 axis-of-requires-2 c κs = search needs
 
+cut-requires : tie.Need-cut-requires
+cut-requires c κs =
+    let v = c .before .before .before in
+    let s = v .before .before .before .before .before .before .before .args in
+    let e = c .before .before .step-of in
+    subst (Size 196610) (sym (e .ensures)) (size-wider 131072 196610 (stepOf (s .p0) (s .p1)) (lit≤ tt) (step-size (accepted-at v)))
+
+add-guess : tie.Need-add-guess
+add-guess c = search needs
+
 fill-requires : tie.Need-fill-requires
 fill-requires c κs =
-    let v = c .before .before .before .before in
-    let m = made (c .before) in
+    let v = c .before .before .before .before .before in
+    let m = made (c .before .before) in
     (made-drawn m (accepted-at v) (sides (v .before .before .before .before)), made-ends m (accepted-at v))
 
 same-length : tie.Need-same-length
@@ -86,11 +98,11 @@ same-length c = search needs
 returns-4 : tie.Need-returns-4
 unfolding overlappingPixelsDdaOf
 returns-4 c =
-    let v = c .before .before .before .before .before .before .before in
+    let v = c .before .before .before .before .before .before .before .before in
     let s = v .before .before .before .before .before .before .before .args in
     let f = c .before .before .fill in
     rw (sides (v .before .before .before .before), fit (v .before .before), differ v)
-    (made-listing (made (c .before .before .before .before)) (s .width) (s .height) (s .list .now) (f .result) (f .last .0) (f .ensures))
+    (made-listing (made (c .before .before .before .before .before)) (s .width) (s .height) (s .list .now) (f .result) (f .last .0) (f .ensures))
 
 pub overlapping-pixels-dda-spec : {M : Type 1} → statement M
 overlapping-pixels-dda-spec =
@@ -105,6 +117,8 @@ overlapping-pixels-dda-spec =
     step-of-requires
     axis-of-requires
     axis-of-requires-2
+    cut-requires
+    add-guess
     fill-requires
     same-length
     returns-4)
