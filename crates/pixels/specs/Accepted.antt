@@ -112,6 +112,7 @@ module _ {p q : Vec2} (w : Accepted p q) where
       nonzero : NonZero (q .x ⊖ p .x) ⊎ NonZero (q .y ⊖ p .y)
       nonzero = elim (w .differ) [ inl h ↦ inl (difference-nonzero (w .x0) (w .x1) h) | inr h ↦ inr (difference-nonzero (w .y0) (w .y1) h) ]
 
+  -- neither difference is more than 131,072 in size, and so nor is the larger one
   pub step-size : Size 131072 (stepOf p q)
   unfolding stepOf maxOf
   step-size =

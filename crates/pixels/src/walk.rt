@@ -44,13 +44,13 @@ fn exit_of(a: Axis, b: Axis) -> usize
     k
 }
 
-// How far the walk goes, and whether a list takes the entries of its positions and a closing one.
+// How many steps the walk takes, and whether a list has room for its entries and a closing one.
 struct Extent {
     last: usize,
     fits: bool,
 }
 
-// That of a list of any length: the positions in the image are counted in the walk that finds where it ends.
+// By a count of the positions in the image, made in the walk that finds where it ends, so that no other walk is needed for it.
 fn counted_extent(room: usize, width: usize, height: usize, a: Axis, b: Axis) -> Extent
     requires { ⌜ (width ≤ 16384) × (height ≤ 16384) × Ends a b ⌝ }
     ensures { λ r. ⌜ Extends width height a b room r ⌝ }
@@ -71,8 +71,8 @@ fn counted_extent(room: usize, width: usize, height: usize, a: Axis, b: Axis) ->
     }
 }
 
-// Each position gives one entry at most, so a list that is longer than the walk is found to fit without a count, which is quicker.
-// `guess`, how many steps are expected, only says which way to try first.
+// Each position gives one entry at most, so a list that is longer than the walk needs no count, and a walk without one is quicker.
+// `guess`, how many steps are expected, decides only which of the two is tried first.
 fn extent_of(room: usize, guess: usize, width: usize, height: usize, a: Axis, b: Axis) -> Extent
     requires { ⌜ (width ≤ 16384) × (height ≤ 16384) × Ends a b ⌝ }
     ensures { λ r. ⌜ Extends width height a b room r ⌝ }
@@ -184,6 +184,7 @@ pub fn overlapping_pixels_dda(
     let step = step_of(p0, p1);
     let a = axis_of(step, p0.x, p1.x);
     let b = axis_of(step, p0.y, p1.y);
+    // Steps of one along the longer difference, and one past its end: the walk rarely takes more.
     let guess = cut(step) + 1;
     fill(list, guess, width, height, a, b)
 }
