@@ -1,4 +1,5 @@
 pub mod Sizes
+pub mod Shift
 pub mod Whole
 pub mod Ends
 pub mod Standard
