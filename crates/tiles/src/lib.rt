@@ -98,7 +98,7 @@ fn past_place(x: f32, size: usize) -> usize
     if q < 0.0 {
         return 0;
     }
-    std::num::truncating_f32_to_u64(q) as usize + 1
+    rounding::to_usize(q) + 1
 }
 
 // n rows from row r on, of each the k tiles from column c on.

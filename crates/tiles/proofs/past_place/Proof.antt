@@ -28,9 +28,8 @@ returns : tie.Need-returns
 unfolding ofBits
 returns c = sym (quotient (c .before .before) .minus-past (c .if1 .taken))
 
-truncating-f32-to-u64-requires : tie.Need-truncating-f32-to-u64-requires
-unfolding ofBits
-truncating-f32-to-u64-requires c κs = (quotient (c .before .before) .above-low (c .if1 .left), quotient (c .before .before) .below-top)
+to-usize-requires : tie.Need-to-usize-requires
+to-usize-requires c κs = tt
 
 add-result : tie.Need-add-result
 add-result c = omega (arith, quotient (c .before .before .before) .whole-le)
@@ -38,8 +37,8 @@ add-result c = omega (arith, quotient (c .before .before .before) .whole-le)
 returns-2 : tie.Need-returns-2
 unfolding ofBits
 returns-2 c =
-    let n = c .truncating-f32-to-u64 in
+    let n = c .to-usize in
     add-one (n .result) ∙ ap suc (n .ensures) ∙ quotient (c .before .before .before) .plus-past (c .before .if1 .left)
 
 pub past-place-spec : {M : Type 1} → statement M
-past-place-spec = tie.close (tie.spec int-to-float-q returns truncating-f32-to-u64-requires add-result returns-2)
+past-place-spec = tie.close (tie.spec int-to-float-q returns to-usize-requires add-result returns-2)
