@@ -9,49 +9,49 @@ const NONE: u32 = 255;
 
 #[repr(C)]
 pub struct FloatAnswer {
-    status: u32,
-    value: f32,
+    pub status: u32,
+    pub value: f32,
 }
 
 #[repr(C)]
 pub struct PointAnswer {
-    status: u32,
-    value: Vec2,
+    pub status: u32,
+    pub value: Vec2,
 }
 
 #[repr(C)]
 pub struct BoxAnswer {
-    status: u32,
-    value: Aabb2,
+    pub status: u32,
+    pub value: Aabb2,
 }
 
 #[repr(C)]
 pub struct IntervalAnswer {
-    status: u32,
-    tmin: f32,
-    tmax: f32,
+    pub status: u32,
+    pub tmin: f32,
+    pub tmax: f32,
 }
 
 #[repr(C)]
 pub struct PixelsAnswer {
-    status: u32,
-    x0: usize,
-    y0: usize,
-    x1: usize,
-    y1: usize,
+    pub status: u32,
+    pub x0: usize,
+    pub y0: usize,
+    pub x1: usize,
+    pub y1: usize,
 }
 
 #[repr(C)]
 pub struct CountAnswer {
-    status: u32,
-    count: usize,
+    pub status: u32,
+    pub count: usize,
 }
 
 #[repr(C)]
 pub struct ReadAnswer {
-    status: u32,
-    version: usize,
-    count: usize,
+    pub status: u32,
+    pub version: usize,
+    pub count: usize,
 }
 
 impl FloatAnswer {

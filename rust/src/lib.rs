@@ -12,10 +12,9 @@
 //!
 //! The wrappers are marked to be inlined: a struct handed on by a call of its own costs more than a clip.
 
-mod answers;
-
 pub mod aabb;
 pub mod aabb2;
+pub mod answers;
 pub mod edge2;
 pub mod f32;
 pub mod hatch;

@@ -1,0 +1,134 @@
+//! The Rust behind the library's own C ABI, so that both sides of a measurement pay for the same call.
+//!
+//! None of these may be inlined: a call into the library is not.
+
+use bagnoszyk::answers::{CountAnswer, IntervalAnswer, PointAnswer, ReadAnswer};
+use bagnoszyk::refusal;
+use bagnoszyk::shapes::{Aabb2, Obb2, OnEdge, Vec2};
+use del_geo_core::obb2::OBB2Trait;
+use del_geo_core::{aabb, aabb2, edge2};
+
+const ANSWERED: u32 = 0;
+const NONE: u32 = 255;
+
+#[inline(never)]
+pub extern "C" fn intersections_against_line(
+    b: Aabb2,
+    origin: Vec2,
+    direction: Vec2,
+) -> IntervalAnswer {
+    let (b, origin, direction) = (b.into(), origin.into(), direction.into());
+    match aabb::intersections_against_line::<f32, 2, 4>(&b, &origin, &direction) {
+        Some((tmin, tmax)) => IntervalAnswer { status: ANSWERED, tmin, tmax },
+        None => IntervalAnswer { status: NONE, tmin: 0.0, tmax: 0.0 },
+    }
+}
+
+/// # Safety
+/// The list starts at `list` and has room for every entry.
+#[inline(never)]
+pub unsafe extern "C" fn overlapping_pixels_dda(
+    width: usize,
+    height: usize,
+    p0: Vec2,
+    p1: Vec2,
+    list: *mut u32,
+    room: usize,
+) -> CountAnswer {
+    let entries = edge2::overlapping_pixels_dda::<f32>((width, height), &p0.into(), &p1.into());
+    let list = unsafe { std::slice::from_raw_parts_mut(list, room) };
+    copied(entries.iter().copied(), entries.len(), list)
+}
+
+/// # Safety
+/// The list starts at `list` and has room for every tile.
+#[inline(never)]
+pub unsafe extern "C" fn overlapping_tiles(
+    b: Aabb2,
+    size: usize,
+    shape_width: usize,
+    shape_height: usize,
+    list: *mut u32,
+    room: usize,
+) -> CountAnswer {
+    let tiles = aabb2::overlapping_tiles(&b.into(), size, (shape_width, shape_height));
+    let list = unsafe { std::slice::from_raw_parts_mut(list, room) };
+    copied(tiles.iter().copied(), tiles.len(), list)
+}
+
+#[inline(never)]
+pub extern "C" fn is_intersect_obb2(a: Obb2, b: Obb2) -> bool {
+    a.0.is_intersect_obb2(&b.0)
+}
+
+#[inline(never)]
+pub extern "C" fn is_intersect_aabb2(o: Obb2, b: Aabb2) -> bool {
+    o.0.is_intersect_aabb2(&b.into())
+}
+
+#[inline(never)]
+pub extern "C" fn obb2_nearest_point2(o: Obb2, p: Vec2) -> PointAnswer {
+    PointAnswer { status: ANSWERED, value: o.0.nearest_point2(&p.into()).into() }
+}
+
+#[inline(never)]
+pub extern "C" fn aabb2_nearest_point2(b: Aabb2, p: Vec2) -> PointAnswer {
+    PointAnswer { status: ANSWERED, value: aabb2::nearest_point2(&b.into(), &p.into()).into() }
+}
+
+#[inline(never)]
+pub extern "C" fn nearest_to_point(s: Vec2, e: Vec2, p: Vec2) -> OnEdge {
+    let (ratio, point) = edge2::nearest_to_point::<f32>(&s.into(), &e.into(), &p.into());
+    OnEdge { ratio, point: point.into() }
+}
+
+/// The machine's instruction.
+#[inline(never)]
+pub extern "C" fn sqrt(x: f32) -> f32 {
+    x.sqrt()
+}
+
+/// The Rust has no hatch list: this reader is ours, written plainly.
+///
+/// # Safety
+/// The bytes and the list start where they are said to, with the lengths given.
+#[inline(never)]
+pub unsafe extern "C" fn read_floats(
+    bytes: *const u8,
+    length: usize,
+    list: *mut f32,
+    room: usize,
+) -> ReadAnswer {
+    let bytes = unsafe { std::slice::from_raw_parts(bytes, length) };
+    let list = unsafe { std::slice::from_raw_parts_mut(list, room) };
+    let refused = |status| ReadAnswer { status, version: 0, count: 0 };
+    if !bytes.starts_with(b"HSL") {
+        return refused(refusal::MARK);
+    }
+    let Some((header, records)) = bytes.split_at_checked(7) else {
+        return refused(refusal::LENGTH);
+    };
+    let number = |at: usize| usize::from(u16::from_le_bytes([header[at], header[at + 1]]));
+    let (version, count) = (number(3), number(5));
+    if version != 1 {
+        return refused(refusal::VERSION);
+    } else if count > 2000 {
+        return refused(refusal::COUNT);
+    } else if records.len() != 32 * count {
+        return refused(refusal::LENGTH);
+    } else if room < 8 * count {
+        return refused(refusal::ROOM);
+    }
+    let (patterns, _) = records.as_chunks();
+    for (place, &pattern) in list.iter_mut().zip(patterns) {
+        *place = f32::from_le_bytes(pattern);
+    }
+    ReadAnswer { status: ANSWERED, version, count }
+}
+
+fn copied(entries: impl Iterator<Item = usize>, count: usize, list: &mut [u32]) -> CountAnswer {
+    for (place, entry) in list[..count].iter_mut().zip(entries) {
+        *place = entry as u32;
+    }
+    CountAnswer { status: ANSWERED, count }
+}
