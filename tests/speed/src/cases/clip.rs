@@ -1,8 +1,8 @@
-//! Hatch lines against one box: rising lines and their falling twins, in random order.
+//! Hatch lines against one box: a face hatched crosswise, in drawing order; and lines of all kinds, in random order.
 
 use super::calls;
 use crate::measure::Case;
-use crate::random::{Random, between, point};
+use crate::random::{Random, point};
 use bagnoszyk::aabb;
 use bagnoszyk::shapes::{Aabb2, Vec2};
 
@@ -12,12 +12,12 @@ const LINES: usize = 3000;
 type Line = (Vec2, Vec2);
 
 pub fn cases() -> Vec<Case> {
+    let hatch = (0..LINES).map(slanting).collect();
     let mut random = Random::new(1, "clip");
-    let hatch = (0..LINES).map(|_| slanting(&mut random)).collect();
     let mixed = (0..LINES).map(|_| any(&mut random)).collect();
     vec![
         clip("clip: 3,000 hatch lines, rising and falling", hatch).goal(0.9),
-        clip("clip: 3,000 lines, a quarter upright or level", mixed).goal(0.9),
+        clip("clip: 3,000 lines of all kinds", mixed).goal(0.9),
     ]
 }
 
@@ -32,12 +32,17 @@ fn clip(name: &str, lines: Vec<Line>) -> Case {
     )
 }
 
-/// A line at 45 degrees, spaced so that about half of them hit.
-fn slanting(random: &mut Random) -> Line {
-    let origin = Vec2 { x: between(random, -200, 320), y: 0.0 };
-    (origin, Vec2 { x: if random.one_in(2) { 1.0 } else { -1.0 }, y: 1.0 })
+/// Line k at 45 degrees, each rising one followed by its falling twin: evenly spaced over the face, with one pair past it at either end.
+fn slanting(k: usize) -> Line {
+    let (width, height) = (FACE.max_x, FACE.max_y);
+    let pair = (k / 2) as f32 - 1.0;
+    let x = pair * (width + height) / (LINES / 2 - 3) as f32 - height;
+    let rising = (Vec2 { x, y: 0.0 }, Vec2 { x: 1.0, y: 1.0 });
+    let falling = (Vec2 { x: width - x, y: 0.0 }, Vec2 { x: -1.0, y: 1.0 });
+    if k.is_multiple_of(2) { rising } else { falling }
 }
 
+/// A quarter is upright or level, and many miss.
 fn any(random: &mut Random) -> Line {
     let origin = point(random, -20, 140);
     let mut direction = point(random, -4, 4);
