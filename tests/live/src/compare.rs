@@ -1,7 +1,8 @@
-//! Random inputs for each routine, and the tiles by brute force.
+//! Random inputs for each routine, hatch lists, and the tiles by brute force.
 
 use crate::cover;
 use crate::figures;
+use crate::hatch;
 use crate::inputs::Inputs;
 use crate::options::Options;
 use crate::pairs::pairs;
@@ -19,5 +20,9 @@ pub fn run(options: &Options) -> Result<(), String> {
     }
     let total = pairs.len() as u64 * count;
     println!("{} routines, {total} inputs, no difference, seed {}", pairs.len(), options.seed);
-    if options.only.is_empty() { cover::run(options) } else { Ok(()) }
+    if options.only.is_empty() {
+        hatch::run(options.seed, count)?;
+        cover::run(options)?;
+    }
+    Ok(())
 }

@@ -8,11 +8,11 @@ mod touch;
 mod wholes;
 
 pub use kinds::{Kind, mirror};
+pub use source::Source;
 
 use crate::judge::Row;
 use crate::random::Random;
 use ask::Args;
-use source::Source;
 
 pub struct Inputs {
     row: &'static Row,

@@ -4,6 +4,7 @@ mod all;
 mod compare;
 mod cover;
 mod figures;
+mod hatch;
 mod inputs;
 mod judge;
 mod options;
@@ -17,7 +18,7 @@ use std::env;
 use std::process::ExitCode;
 
 const USAGE: &str = "usage: live MODE [--seed S] [--count N] [--only PREFIX]
-  compare  random inputs for each routine: the library against the Rust
+  compare  random inputs for each routine, and hatch lists: the library against the Rust
   all      all 4294967296 inputs of each routine of one float: the library against the Rust
   cover    the tiles listed against their definition, by brute force on small sheets
   vectors  print requests with the Rust's answers

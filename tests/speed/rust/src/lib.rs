@@ -3,7 +3,6 @@
 //! None of these may be inlined: a call into the library is not.
 
 use bagnoszyk::answers::{CountAnswer, IntervalAnswer, PointAnswer, ReadAnswer};
-use bagnoszyk::refusal;
 use bagnoszyk::shapes::{Aabb2, Obb2, OnEdge, Vec2};
 use del_geo_core::obb2::OBB2Trait;
 use del_geo_core::{aabb, aabb2, edge2};
@@ -88,7 +87,7 @@ pub extern "C" fn sqrt(x: f32) -> f32 {
     x.sqrt()
 }
 
-/// The Rust has no hatch list: this reader is ours, written plainly.
+/// The Rust has no hatch list: this reader is ours.
 ///
 /// # Safety
 /// The bytes and the list start where they are said to, with the lengths given.
@@ -101,29 +100,15 @@ pub unsafe extern "C" fn read_floats(
 ) -> ReadAnswer {
     let bytes = unsafe { std::slice::from_raw_parts(bytes, length) };
     let list = unsafe { std::slice::from_raw_parts_mut(list, room) };
-    let refused = |status| ReadAnswer { status, version: 0, count: 0 };
-    if !bytes.starts_with(b"HSL") {
-        return refused(refusal::MARK);
+    match hatch_list::read(bytes, room) {
+        Ok(hatch_list::Records { version, count, floats }) => {
+            for (place, &float) in list.iter_mut().zip(floats) {
+                *place = f32::from_le_bytes(float);
+            }
+            ReadAnswer { status: ANSWERED, version, count }
+        }
+        Err(status) => ReadAnswer { status, version: 0, count: 0 },
     }
-    let Some((header, records)) = bytes.split_at_checked(7) else {
-        return refused(refusal::LENGTH);
-    };
-    let number = |at: usize| usize::from(u16::from_le_bytes([header[at], header[at + 1]]));
-    let (version, count) = (number(3), number(5));
-    if version != 1 {
-        return refused(refusal::VERSION);
-    } else if count > 2000 {
-        return refused(refusal::COUNT);
-    } else if records.len() != 32 * count {
-        return refused(refusal::LENGTH);
-    } else if room < 8 * count {
-        return refused(refusal::ROOM);
-    }
-    let (patterns, _) = records.as_chunks();
-    for (place, &pattern) in list.iter_mut().zip(patterns) {
-        *place = f32::from_le_bytes(pattern);
-    }
-    ReadAnswer { status: ANSWERED, version, count }
 }
 
 fn copied(entries: impl Iterator<Item = usize>, count: usize, list: &mut [u32]) -> CountAnswer {
