@@ -1,4 +1,4 @@
--- The casts: a side to a float, and a bound on a coordinate cut to an integer. Assumes nothing.
+-- The casts: a side to a float, and a coordinate cut to an integer by the test `x < 0.0`. Assumes nothing.
 use mathlib.Core.Path.{_≡_, refl}
 use mathlib.Core.Bool.{true, false}
 use Prim.Native.Nat.{ℕ, _+_, _*_, _/_, _^_, _≤_, _<_, zero-le}
@@ -16,6 +16,28 @@ use Rattle.pixels.specs.Size.{Size}
 pub side-float : (n : ℕ) → n ≤ 16384 → T (inFloat binary32 (pos n))
 unfolding inFloat
 side-float n h = le→leb n (2 ^ 24) (le-trans h (lit≤ tt))
+
+pub cut-low : (x : Float) → Size 196610 x → lt x +0 ≡ true → toUnsigned 64 x ≡ 0
+unfolding lt toUnsigned ofBits
+cut-low nan h t = refl
+cut-low (inf s) h t = absurd h
+cut-low (fin true m e) h t = refl
+cut-low (fin false m e) h t = absurd (omega (arith, ltb-true (m * up e * 1) (0 * down e) t))
+
+-- what the truncating cast asks
+pub cut-above : (x : Float) → Size 196610 x → lt x +0 ≡ false → T (lt (fin true 1 (pos 0)) x)
+unfolding lt ofBits
+cut-above nan h t = absurd h
+cut-above (inf s) h t = absurd h
+cut-above (fin false m e) h t = lt→ltb 0 (1 * down e + m * up e * 1) (omega (arith, down-pos e))
+cut-above (fin true m e) h t = lt→ltb (m * up e * 1) (1 * down e) (omega (arith, down-pos e, ltb-false 0 (m * up e * 1 + 0 * down e) t))
+
+pub cut-below : (x : Float) → Size 196610 x → T (lt x (fin false 1 (pos 64)))
+unfolding lt
+cut-below nan h = absurd h
+cut-below (inf s) h = absurd h
+cut-below (fin false m e) h = lt→ltb (m * up e * 1) (1 * 2 ^ 64 * down e) (omega (arith, down-pos e, mul-one (m * up e)))
+cut-below (fin true m e) h = lt→ltb 0 (m * up e * 1 + 1 * 2 ^ 64 * down e) (omega (arith, down-pos e))
 
 pub cut-le : (x : Float) → Size 196610 x → toUnsigned 64 x ≤ 196610
 unfolding toUnsigned

@@ -32,7 +32,10 @@ pub(crate) fn cut(x: f32) -> usize
     requires { ⌜ Size 196610 x ⌝ }
     ensures { λ r. ⌜ (r ≡ toUnsigned 64 x) × (r ≤ 196610) ⌝ }
 {
-    rounding::to_usize(x)
+    if x < 0.0 {
+        return 0;
+    }
+    std::num::truncating_f32_to_u64(x) as usize
 }
 
 // Row times width plus column.
