@@ -18,7 +18,7 @@ fn main() {
         print_ratio(case);
     }
     println!();
-    println!("| cost against size | how many in a run | ns each |");
+    println!("| cost against size | in a run | ns each |");
     println!("|---|---|---|");
     for size in cases::sized().iter().filter(|size| size.name.starts_with(&only)) {
         let each = measure::alone(&size.library) / size.units as f64;
