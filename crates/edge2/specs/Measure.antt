@@ -1,15 +1,11 @@
 -- Lengths, directions and positions along an edge, each operation rounded. Definitions only.
 use mathlib.Core.Bool.{Bool, not, _||_}
-use lib.Ieee.{Float, binary32, ofBits, lt}
+use lib.Ieee.{Float, lt}
 use Rattle.types.specs.declared.shape.Vec2.{Vec2}
-use Rattle.float.specs.Rounded.{_⊕_, _⊖_, _⊗_, _⊘_, one}
+use Rattle.float.specs.Rounded.{_⊕_, _⊖_, _⊗_, _⊘_, one, epsilon}
 use Rattle.float.specs.Values.{minOf, maxOf}
 use Rattle.root.specs.Root.{sqrtOf}
 use Rattle.vec2.specs.Values as vec2
-
--- Rust's f32::EPSILON, 2 ^ -23
-abbrev pub epsilon : Float
-epsilon = ofBits binary32 0x3400_0000
 
 abbrev pub squaredLengthOf : Vec2 → Vec2 → Float
 squaredLengthOf s e = vec2.squaredLengthOf (vec2.subOf s e)

@@ -1,5 +1,6 @@
-pub mod Values
-pub mod Rounded
-pub mod Units
+pub mod Fields
 pub mod Folds
 pub mod Laws
+pub mod Rounded
+pub mod Units
+pub mod Values

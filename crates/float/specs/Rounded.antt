@@ -24,3 +24,7 @@ half = ofBits binary32 0x3f00_0000
 
 abbrev pub one : Float
 one = ofBits binary32 0x3f80_0000
+
+-- 2 ^ -23, Rust's f32::EPSILON
+abbrev pub epsilon : Float
+epsilon = ofBits binary32 0x3400_0000

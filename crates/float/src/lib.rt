@@ -2,6 +2,9 @@
 ghost use mathlib.Core.Path.{_≡_};
 ghost use Rattle.float.specs.Values.{absOf, minOf, maxOf, clampOf, lesserOf, greaterOf, numberOr};
 
+// 2 ^ 23: the weight of the leading one of an f32's 24 binary digits, and of the exponent's field among its bits.
+pub const LEADING: u32 = 8388608;
+
 pub fn abs(x: f32) -> f32
     ensures { λ r. ⌜ r ≡ absOf x ⌝ }
 {

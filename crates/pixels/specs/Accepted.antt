@@ -10,9 +10,9 @@ use lib.IntN.{pos}
 use lib.Dec.{T, lit≤}
 use lib.Ieee.{Float, nan, inf, fin, binary32, up, lt, le, eq, isNan, fits, ofBits}
 use Rattle.types.specs.declared.shape.Vec2.{Vec2}
-use Rattle.float.specs.Rounded.{_⊖_, _⊘_}
+use Rattle.float.specs.Rounded.{_⊖_, _⊘_, epsilon}
 use Rattle.float.specs.Values.{absOf, minOf, maxOf}
-use Rattle.pixels.specs.Walk.{epsilon, stepOf, axisOf, goesOn, leaves, exit, alongX, alongY}
+use Rattle.pixels.specs.Walk.{stepOf, axisOf, goesOn, leaves, exit, alongX, alongY}
 use Rattle.pixels.specs.Answer.{withinLimit, pointFits, endsFit, sameEnds}
 use Rattle.pixels.specs.Round.{le-num}
 use Rattle.pixels.specs.Size.{Size, add-size, sub-size}

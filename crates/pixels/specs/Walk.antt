@@ -2,15 +2,11 @@
 use mathlib.Core.Bool.{Bool, true, false, not, _&&_, _||_}
 use mathlib.Core.List.{List, [], _∷_, _++_}
 use Prim.Native.Nat.{ℕ, zero, suc}
-use lib.Ieee.{Float, binary32, ofBits, lt}
+use lib.Ieee.{Float, lt}
 use Rattle.types.specs.declared.shape.Vec2.{Vec2}
-use Rattle.float.specs.Rounded.{_⊕_, _⊖_, _⊘_}
+use Rattle.float.specs.Rounded.{_⊕_, _⊖_, _⊘_, epsilon}
 use Rattle.float.specs.Values.{absOf, minOf, maxOf}
 use Rattle.pixels.specs.declared.axis.Axis.{Axis}
-
--- Rust's f32::EPSILON, 2 ^ -23
-abbrev pub epsilon : Float
-epsilon = ofBits binary32 0x3400_0000
 
 -- ---- one coordinate
 

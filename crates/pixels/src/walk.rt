@@ -80,10 +80,7 @@ fn extent_of(room: usize, guess: usize, width: usize, height: usize, a: Axis, b:
     if guess < room {
         let last = exit_of(a, b);
         if last < room {
-            return Extent {
-                last: last,
-                fits: true,
-            };
+            return Extent { last, fits: true };
         }
     }
     counted_extent(room, width, height, a, b)

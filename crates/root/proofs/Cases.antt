@@ -9,13 +9,13 @@ use lib.Dec.{eqb}
 use lib.Ieee.{Float, nan, inf, fin, binary32, ofFields, ofBits}
 use lib.Ieee.Exact.{HasValue}
 use lib.Ieee.Positive.{positive-of-value}
+use Rattle.float.specs.Fields.{fieldUnits, field-value, field-top}
 use Rattle.root.specs.Radicand.{radicand}
 use Rattle.root.specs.Root.{nearestRoot, sqrtOf}
 use Rattle.root.proofs.Special.{sqrt-of-nan, sqrt-of-infinity, sqrt-of-minus-infinity}
 use Rattle.root.proofs.Special.{sqrt-of-zero, sqrt-of-negative}
 use Rattle.root.proofs.Units.{positive-root}
-use Rattle.root.proofs.Patterns.{fieldUnits, field-value, field-positive, field-top}
-use Rattle.root.proofs.Patterns.{sign-clear, sign-set, value-at}
+use Rattle.root.proofs.Patterns.{field-positive, sign-clear, sign-set, value-at}
 
 -- ---- the zeros
 pub root-zero : sqrtOf (ofBits binary32 0) ≡ ofBits binary32 0

@@ -1,37 +1,24 @@
 -- What a bit pattern stands for: its sign, and if finite its units, by exponent's field and fraction. Assumes nothing.
-use mathlib.Core.Path.{_≡_, refl, sym}
-use mathlib.Core.Bool.{Bool, true, false, not, cond, true≢false}
+use mathlib.Core.Path.{_≡_, sym}
+use mathlib.Core.Bool.{true, false, not, true≢false}
 use Prim.Native.Nat.{ℕ, zero, suc, _+_, _*_, _/_, _%_, _^_, _≤_, _<_}
 use native.Mathlib.Nat.{mul-one, mul-pos, mod-eq-of-lt}
 use native.Mathlib.Omega.{arith}
-use borrow.Author.Tests.{le-leb, lt-leb, ne-eqb}
+use borrow.Author.Tests.{le-leb, lt-leb}
 use lib.Arith.{le→nltb}
-use lib.Dec.{T, eqb}
+use lib.Dec.{T}
 use lib.Pow.{pow-pos}
 use lib.Ieee.{Float, nan, inf, fin, binary32, ofFields, ofBits, toBits, nanBits, isNan, ne, fits}
 use lib.Ieee.Bits.{ofBits-toBits, nanBits-above}
-use lib.Ieee.Exact.{HasValue, odd-sign}
+use lib.Ieee.Exact.{HasValue}
+use Rattle.float.specs.Fields.{fieldUnits, field-value}
 use Rattle.float.specs.Units.{inUnits}
 use Rattle.root.proofs.Units.{units-of}
 
--- ---- by the field x and the fraction t: a field of 0 has no leading digit, and counts as a field of 1
-abbrev pub fieldUnits : ℕ → ℕ → ℕ
-fieldUnits zero t = t * 2 ^ 0
-fieldUnits (suc x) t = (2 ^ 23 + t) * 2 ^ x
-
-pub field-value : (s : Bool) (x t : ℕ) → x < 255 → HasValue (ofFields binary32 s x t) s (fieldUnits x t) (2 ^ 149)
-unfolding ofFields
-field-value s zero t h = odd-sign 24 s t 0 149
-field-value s (suc x) t h = rw (ne-eqb (suc x) 255 (λ e. omega arith)) (odd-sign 24 s (2 ^ 23 + t) x 149)
-
+-- ---- by the field x and the fraction t
 pub field-positive : (x t : ℕ) → 0 < x * 2 ^ 23 + t → 0 < fieldUnits x t
 field-positive zero t h = rw (mul-one t) (omega arith)
 field-positive (suc x) t h = mul-pos {m = 2 ^ 23 + t} {n = 2 ^ x} (omega arith) (pow-pos x)
-
--- the highest field
-pub field-top : (s : Bool) (t : ℕ) → ofFields binary32 s 255 t ≡ cond (eqb t 0) (inf s) nan
-unfolding ofFields
-field-top s t = refl
 
 -- ---- by the bits
 pub sign-clear : (b : ℕ) → b < 0x8000_0000 → ofBits binary32 b ≡ ofFields binary32 false (b / 2 ^ 23) (b % 2 ^ 23)

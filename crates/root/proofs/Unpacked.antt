@@ -5,10 +5,11 @@ use native.Mathlib.Nat.{add-comm, mul-assoc, mul-one}
 use native.Mathlib.Omega.{arith}
 use lib.Pow.{pow-add}
 use lib.Ieee.{binary32, ofBits}
+use Rattle.float.specs.Fields.{fieldUnits}
 use Rattle.float.specs.Units.{inUnits}
 use Rattle.root.specs.Radicand.{radicand}
 use Rattle.root.specs.Steps.{Scaled}
-use Rattle.root.proofs.Patterns.{fieldUnits, units-at}
+use Rattle.root.proofs.Patterns.{units-at}
 
 pub subnormal : {d e : ℕ} (b : ℕ) → b < 0x7f80_0000 → b / 2 ^ 23 ≡ 0 → Scaled (b % 2 ^ 23 * 2 ^ 149) d e
     → Scaled (radicand (ofBits binary32 b)) d e

@@ -1,38 +1,30 @@
 -- The whole part of a number from 1 up to 2 ^ 24, from its bits: its 24 digits, less those behind the point. Assumes nothing.
 use mathlib.Core.Path.{_≡_, sym, ap, _∙_, subst}
 use mathlib.Core.Bool.{Bool, true, false, not, cond}
+use mathlib.Core.Logic.{inl, inr}
 use Prim.Native.Nat.{ℕ, zero, suc, _+_, _-_, _*_, _/_, _%_, _^_, _<_, _≤_}
-use native.Mathlib.Nat.{le-trans, le-of-eq, lt-of-lt-of-le, lt-of-le-of-lt, lt-of-not-le, lt-irrefl, le-add-right, add-comm, mul-comm, mul-right-comm, mul-le-mul-right, mul-lt-mul-of-pos-right, le-of-mul-le-mul-right, lt-of-mul-lt-mul-right, mod-eq-of-lt}
+use native.Mathlib.Nat.{le-trans, le-of-eq, lt-of-lt-of-le, lt-of-le-of-lt, lt-of-not-le, lt-irrefl, le-add-right, add-comm, mul-comm, mul-right-comm, mul-le-mul-right, mul-lt-mul-of-pos-right, le-of-mul-le-mul-right, lt-of-mul-lt-mul-right, mod-eq-of-lt, eq-or-lt-of-le}
 use native.Mathlib.Omega.{arith}
 use lib.IntN.{ℤ}
 use lib.Dec.{T, eqb, leb, lit≤}
 use lib.Pow.{pow-pos, pow-add, pow-mono, shl-lt, shl-shr, shr-shr}
-use lib.Ieee.{Float, nan, inf, fin, binary32, up, down, odd, ofFields, ofBits, toBits, fits, isNan, le, lt, toUnsigned}
+use lib.Ieee.{Float, nan, inf, fin, binary32, up, down, ofFields, ofBits, toBits, fits, isNan, le, lt, toUnsigned}
 use lib.Ieee.Bits.{ofBits-toBits}
-use lib.Ieee.Exact.{HasValue, odd-sign}
+use lib.Ieee.Exact.{HasValue}
 use lib.Ieee.Fits.{down-pos}
 use lib.Ieee.Nearest.{div-same}
 use lib.Ieee.Scale.{finite}
 use borrow.Author.Tests.{leb-false}
+use Rattle.float.specs.Fields.{fieldUnits, field-value, field-top}
 use Rattle.rounding.proofs.Sizes.{pow2, Under, under, part, unsigned, over-zero, one-size}
 
--- ---- what an exponent's field j and a fraction t stand for, in units of 2 ^ -149: a field of 0 has no leading digit
-abbrev fieldUnits : ℕ → ℕ → ℕ
-fieldUnits zero t = t * 2 ^ 0
-fieldUnits (suc j) t = (2 ^ 23 + t) * 2 ^ j
-
-field-value : (s : Bool) (j t m : ℕ) (e : ℤ) → ofFields binary32 s j t ≡ fin false m e → HasValue (fin false m e) s (fieldUnits j t) (2 ^ 149)
-unfolding ofFields
-field-value s zero t m e is = subst (λ (y : Float). HasValue y s (t * 2 ^ 0) (2 ^ 149)) is (odd-sign 24 s t 0 149)
-field-value s (suc j) t m e is = go (eqb (suc j) 255) (cond (eqb t 0) (inf s) nan) (top (eqb t 0)) is
+-- ---- the field of a number is not the highest
+field-lt : (s : Bool) (j t m : ℕ) (e : ℤ) → j ≤ 255 → ofFields binary32 s j t ≡ fin false m e → j < 255
+field-lt s j t m e h is = elim (eq-or-lt-of-le h) [ inl top ↦ absurd (no (eqb t 0) (sym (field-top s t) ∙ rw top at is)) | inr less ↦ less ]
   where
-    top : (b : Bool) → T (not (finite (cond b (inf s) nan)))
-    top true = tt
-    top false = tt
-
-    go : (a : Bool) (y : Float) → T (not (finite y)) → cond a y (odd 24 s (2 ^ 23 + t) j 149) ≡ fin false m e → HasValue (fin false m e) s ((2 ^ 23 + t) * 2 ^ j) (2 ^ 149)
-    go true y h is = absurd (subst (λ (z : Float). T (not (finite z))) is h)
-    go false y h is = subst (λ (z : Float). HasValue z s ((2 ^ 23 + t) * 2 ^ j) (2 ^ 149)) is (odd-sign 24 s (2 ^ 23 + t) j 149)
+    no : (b : Bool) → cond b (inf s) nan ≡ fin false m e → ⊥
+    no true is = subst (λ (y : Float). T (not (finite y))) is tt
+    no false is = subst (λ (y : Float). T (not (finite y))) is tt
 
 -- ---- the field of a number from 1 up to 2 ^ 24 says how many of the digits are behind the point
 record Cut (j t n : ℕ) : Type 0 where
@@ -79,7 +71,11 @@ cut (suc j) t n d h p lo hi v =
 cut-bits : (b m : ℕ) (e : ℤ) → ofBits binary32 b ≡ fin false m e → down e ≤ m * up e → m * up e < 2 ^ 24 * down e → Cut (b / 2 ^ 23) (b % 2 ^ 23) (part m e)
 unfolding ofBits
 cut-bits b m e is lo hi =
-    let v = field-value (leb (2 ^ 31) b) (b % 2 ^ 31 / 2 ^ 23) (b % 2 ^ 23) m e is in
+    let s = leb (2 ^ 31) b in
+    let j = b % 2 ^ 31 / 2 ^ 23 in
+    let t = b % 2 ^ 23 in
+    let v : HasValue (fin false m e) s (fieldUnits j t) (2 ^ 149) =
+    subst (λ (y : Float). HasValue y s (fieldUnits j t) (2 ^ 149)) is (field-value s j t (field-lt s j t m e (omega arith) is)) in
     let small : b < 2 ^ 31 = leb-false (2 ^ 31) b (sym (v .0)) in
     subst (λ (k : ℕ). Cut (k / 2 ^ 23) (b % 2 ^ 23) (part m e)) (mod-eq-of-lt small)
     (cut (b % 2 ^ 31 / 2 ^ 23) (b % 2 ^ 23) (m * up e) (down e) (omega arith) (down-pos e) lo hi (v .1))

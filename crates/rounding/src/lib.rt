@@ -1,12 +1,10 @@
 // Rounding to whole numbers: floor and ceiling as floats, and Rust's `as` to integers.
+use float::LEADING;
 ghost use mathlib.Core.Path.{_≡_};
 ghost use mathlib.Core.Bool.{true, false};
 ghost use lib.IntN.{pos};
 ghost use lib.Ieee.{fin, le, lt, toSigned, toUnsigned};
 ghost use Rattle.rounding.specs.Values.{floorOf, ceilOf};
-
-// 2 ^ 23: the weight of the leading one of 24 binary digits, and of the exponent's field among the bits.
-const LEADING: u32 = 8388608;
 
 // The whole part of a number from 1 up to 2 ^ 24: its 24 digits, less those behind the point.
 // std's cast takes larger numbers too, and goes by f64, which costs more.
