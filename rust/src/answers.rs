@@ -4,8 +4,9 @@
 use crate::hatch::Records;
 use crate::shapes::{Aabb2, Vec2};
 
-/// The status of no answer. 0 is an answer, any other number a refusal.
-const NONE: u32 = 255;
+/// The status of an answer, and that of none. Any other number is a refusal.
+pub const ANSWERED: u32 = 0;
+pub const NONE: u32 = 255;
 
 #[repr(C)]
 pub struct FloatAnswer {
@@ -74,7 +75,7 @@ impl PointAnswer {
 
     #[inline]
     pub fn option(self) -> Option<Vec2> {
-        (self.status == 0).then_some(self.value)
+        (self.status == ANSWERED).then_some(self.value)
     }
 }
 
@@ -88,7 +89,7 @@ impl BoxAnswer {
 impl IntervalAnswer {
     #[inline]
     pub fn option(self) -> Option<(f32, f32)> {
-        (self.status == 0).then_some((self.tmin, self.tmax))
+        (self.status == ANSWERED).then_some((self.tmin, self.tmax))
     }
 }
 
@@ -115,7 +116,7 @@ impl ReadAnswer {
 
 #[inline]
 fn result<T>(status: u32, value: T) -> Result<T, u32> {
-    if status == 0 { Ok(value) } else { Err(status) }
+    if status == ANSWERED { Ok(value) } else { Err(status) }
 }
 
 #[inline]

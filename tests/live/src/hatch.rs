@@ -4,10 +4,14 @@ use crate::inputs::Source;
 use crate::random::Random;
 use bagnoszyk::hatch;
 use del_geo_core::aabb;
+use hatch_list::Records;
 use std::fmt::Write;
 
 /// Stands in every entry before a call.
 const MARKED: u32 = 0x5a5a_5a5a;
+
+/// What the plain reader makes of a file.
+type Read<'a> = Result<Records<'a>, u32>;
 
 /// A file, and the rooms of the lists lent for its floats and for its report.
 struct Input {
@@ -19,9 +23,12 @@ struct Input {
 pub fn run(seed: u64, count: u64) -> Result<(), String> {
     let mut random = Random::new(seed, "hatch");
     for _ in 0..count {
-        let input = make(&mut random);
-        if !(patterns_agree(&input) && floats_agree(&input) && reports_agree(&input)) {
-            let Input { file, room, page } = input;
+        let Input { file, room, page } = make(&mut random);
+        let read = hatch_list::read(&file, room);
+        let agree = patterns_agree(&file, room, &read)
+            && floats_agree(&file, room, &read)
+            && reports_agree(&file, room, page, &read);
+        if !agree {
             return Err(format!("hatch list {file:02x?} with rooms {room}, {page} differs"));
         }
     }
@@ -58,53 +65,47 @@ fn make(random: &mut Random) -> Input {
     Input { file, room, page: if random.one_in(4) { random.below(60) as usize } else { 300 } }
 }
 
-/// What is left of a list of this length once these are its first entries, or nothing was written.
-fn list(words: Option<&[[u8; 4]]>, room: usize) -> Vec<u32> {
-    let written = words.unwrap_or_default().iter().map(|w| u32::from_le_bytes(*w));
-    let mut list: Vec<u32> = written.collect();
+/// What the library answers where this was read.
+fn answer(read: &Read) -> Result<hatch::Records, u32> {
+    let told = |r: &Records| hatch::Records { version: r.version, count: r.count };
+    read.as_ref().map(told).map_err(|number| *number)
+}
+
+/// The bits in a list of this length afterwards: what was read, and what stood there.
+fn list(read: &Read, room: usize) -> Vec<u32> {
+    let words = read.as_ref().map_or([].as_slice(), |records| records.floats);
+    let mut list: Vec<u32> = words.iter().map(|word| u32::from_le_bytes(*word)).collect();
     list.resize(room, MARKED);
     list
 }
 
-fn patterns_agree(input: &Input) -> bool {
-    let mut out = vec![MARKED; input.room];
-    let answer = hatch::read_patterns(&input.file, &mut out);
-    let expected = hatch_list::read(&input.file, input.room);
-    let (words, expected) = match expected {
-        Ok(records) => (Some(records.floats), Ok((records.version, records.count))),
-        Err(number) => (None, Err(number)),
-    };
-    answer.map(|r| (r.version, r.count)) == expected && out == list(words, input.room)
+fn patterns_agree(file: &[u8], room: usize, read: &Read) -> bool {
+    let mut out = vec![MARKED; room];
+    hatch::read_patterns(file, &mut out) == answer(read) && out == list(read, room)
 }
 
-/// The floats are those of the patterns; a NaN may have any bits.
-fn floats_agree(input: &Input) -> bool {
-    let mut patterns = vec![MARKED; input.room];
-    let mut floats: Vec<f32> = patterns.iter().map(|&bits| f32::from_bits(bits)).collect();
-    let answers = (
-        hatch::read_patterns(&input.file, &mut patterns),
-        hatch::read_floats(&input.file, &mut floats),
-    );
-    let same = |(&bits, x): (&u32, &f32)| {
-        bits == x.to_bits() || f32::from_bits(bits).is_nan() && x.is_nan()
-    };
-    answers.0 == answers.1 && patterns.iter().zip(&floats).all(same)
+/// A NaN may have any bits.
+fn floats_agree(file: &[u8], room: usize, read: &Read) -> bool {
+    let mut out = vec![f32::from_bits(MARKED); room];
+    let same =
+        |(x, bits): (&f32, u32)| x.to_bits() == bits || x.is_nan() && f32::from_bits(bits).is_nan();
+    hatch::read_floats(file, &mut out) == answer(read) && out.iter().zip(list(read, room)).all(same)
 }
 
-fn reports_agree(input: &Input) -> bool {
-    let mut floats = vec![0.0; input.room];
-    let mut page = vec![0xff; input.page];
-    let length = hatch::report(&input.file, &mut floats, &mut page);
-    let mut expected = report(input).into_bytes();
-    expected.truncate(input.page);
+fn reports_agree(file: &[u8], room: usize, page: usize, read: &Read) -> bool {
+    let mut floats = vec![0.0; room];
+    let mut out = vec![0xff; page];
+    let length = hatch::report(file, &mut floats, &mut out);
+    let mut expected = report(read).into_bytes();
+    expected.truncate(page);
     let written = expected.len();
-    expected.resize(input.page, 0xff);
-    length == written && page == expected
+    expected.resize(page, 0xff);
+    length == written && out == expected
 }
 
 /// Document 01's report, with the Rust's clip.
-fn report(input: &Input) -> String {
-    let records = match hatch_list::read(&input.file, input.room) {
+fn report(read: &Read) -> String {
+    let records = match read {
         Ok(records) => records,
         Err(number) => return format!("refused {number}\n"),
     };

@@ -2,13 +2,10 @@
 //!
 //! None of these may be inlined: a call into the library is not.
 
-use bagnoszyk::answers::{CountAnswer, IntervalAnswer, PointAnswer, ReadAnswer};
+use bagnoszyk::answers::{ANSWERED, CountAnswer, IntervalAnswer, NONE, PointAnswer, ReadAnswer};
 use bagnoszyk::shapes::{Aabb2, Obb2, OnEdge, Vec2};
 use del_geo_core::obb2::OBB2Trait;
 use del_geo_core::{aabb, aabb2, edge2};
-
-const ANSWERED: u32 = 0;
-const NONE: u32 = 255;
 
 #[inline(never)]
 pub extern "C" fn intersections_against_line(
