@@ -1,6 +1,6 @@
 // Whether a turned box meets another box: no exactly if some axis separates their corners.
-use crate::axes::first_separating;
 use crate::corners::corner_points;
+use crate::search::first_separating;
 use types::Aabb2;
 use types::Obb2;
 use types::Vec2;

@@ -1,8 +1,8 @@
 -- `obb2::is_intersect_aabb2` meets its contract: the place is four exactly if no axis separates. Assumes nothing.
 use borrow.Author.Needs.{needs}
 use Rattle.obb2.specs.Intersect.{isIntersectAabb2Of}
-use Rattle.obb2.specs.Axes.{meets}
-use Rattle.obb2.proofs.First.{first-none}
+use Rattle.axes.specs.Axes.{meets}
+use Rattle.axes.proofs.First.{first-none}
 use Rattle.obb2.proofs.intersect.is_intersect_aabb2.Statement.{statement}
 use Rattle.obb2.proofs.intersect.is_intersect_aabb2.Tie as tie
 
