@@ -36,7 +36,7 @@ use Rattle.types.proofs.shape.Vec2 as point
 use Rattle.types.proofs.shape.Vec2.Laws as point-laws
 use Rattle.types.proofs.answer.Widened as widened
 use Rattle.types.proofs.answer.Widened.Laws as widened-laws
-use Rattle.aabb2.specs.From.{addPointOf}
+use Rattle.aabb2_from.specs.From.{addPointOf}
 use Rattle.aabb2_lent.specs.Lent.{settledOf, answeredOf}
 use Rattle.aabb2_lent.proofs.add_point as lent
 

@@ -1,10 +1,10 @@
-// A running box, lent and widened where it stands: thin over `aabb2::add_point`, which takes and returns it by value.
+// A running box, lent and widened where it stands: thin over `aabb2_from::add_point`, which takes and returns it by value.
 use types::Aabb2;
 use types::Boxed;
 use types::Vec2;
 use types::Widened;
 ghost use mathlib.Core.Path.{_≡_};
-ghost use Rattle.aabb2.specs.From.{addPointOf};
+ghost use Rattle.aabb2_from.specs.From.{addPointOf};
 ghost use Rattle.aabb2_lent.specs.Lent.{settledOf, answeredOf, boxedOf};
 
 // The box to leave in b's place: on a refusal b itself.
@@ -33,7 +33,7 @@ pub fn add_point(b: &mut Aabb2, p: Vec2, radius: f32) -> Widened
     ensures { λ r. ⌜ (r ≡ answeredOf (addPointOf (now (b .entry)) p radius))
         × (now (b .exit) ≡ settledOf (now (b .entry)) (addPointOf (now (b .entry)) p radius)) ⌝ }
 {
-    let wider = aabb2::add_point(*b, p, radius);
+    let wider = aabb2_from::add_point(*b, p, radius);
     *b = settled(*b, wider);
     answered(wider)
 }

@@ -1,16 +1,12 @@
-// Edges: segments from one point to another.
-mod inside;
-mod measure;
-mod nearest;
-
-pub use inside::ink;
-pub use inside::intersection_length_against_aabb2;
-pub use measure::culling_intersection;
-pub use measure::length;
-pub use measure::position_from_ratio;
-pub use measure::ratio_from_position;
-pub use measure::squared_length;
-pub use measure::unit_edge_vector;
-pub use nearest::OnEdge;
-pub use nearest::nearest_origin;
-pub use nearest::nearest_to_point;
+// Edges, segments from one point to another: each routine under its name, whichever crate has it.
+pub use edge2_inside::ink;
+pub use edge2_inside::intersection_length_against_aabb2;
+pub use edge2_measure::culling_intersection;
+pub use edge2_measure::length;
+pub use edge2_measure::position_from_ratio;
+pub use edge2_measure::ratio_from_position;
+pub use edge2_measure::squared_length;
+pub use edge2_measure::unit_edge_vector;
+pub use edge2_nearest::OnEdge;
+pub use edge2_nearest::nearest_origin;
+pub use edge2_nearest::nearest_to_point;

@@ -1,4 +1,4 @@
--- `aabb2_lent::add_point` meets its contract, by a walk of its code: the borrow is opened, the box is copied out for `aabb2::add_point` and for `settled`, what `settled` returns is stored, and the borrow is closed before `answered` is called.
+-- `aabb2_lent::add_point` meets its contract, by a walk of its code: the borrow is opened, the box is copied out for `aabb2_from::add_point` and for `settled`, what `settled` returns is stored, and the borrow is closed before `answered` is called.
 -- All that is known of the three is that each meets its contract. Assumes nothing.
 use mathlib.Core.Path.{_≡_, refl, ap, _∙_}
 use mathlib.Core.List.{[], _∷_}
@@ -42,10 +42,10 @@ use Rattle.types.proofs.answer.Boxed as boxed
 use Rattle.types.proofs.answer.Boxed.Laws as boxed-laws
 use Rattle.types.proofs.answer.Widened as widened
 use Rattle.types.proofs.answer.Widened.Laws as widened-laws
-use Rattle.aabb2.specs.From.{addPointOf}
-use Rattle.aabb2.proofs.add_point as value
-use Rattle.aabb2.proofs.add_point.Symbol as value-def
-use Rattle.aabb2.proofs.add_point.Met as value-thm
+use Rattle.aabb2_from.specs.From.{addPointOf}
+use Rattle.aabb2_from.proofs.add_point as value
+use Rattle.aabb2_from.proofs.add_point.Symbol as value-def
+use Rattle.aabb2_from.proofs.add_point.Met as value-thm
 use Rattle.aabb2_lent.specs.Lent.{settledOf, answeredOf}
 use Rattle.aabb2_lent.proofs.Ends.{AddPoint, at, Held, begins, ends}
 use Rattle.aabb2_lent.proofs.Plain.{Plain, calls-plain}
@@ -72,7 +72,7 @@ module _ {M : Type 1} (𝓤 : URA M) (H : Heap 𝓤) (A : Atoms 𝓤) (mem : Mem
   Answered = Plain 𝓤 H A answered.ended (answered.clauses 𝓤 H A mem run)
 
   module _ (W : Given 𝓤 H A) (κs : Lfts 1) (qs : Shares 1) (x : RefT Aabb2) (p : Vec2) (r : Float) where
-    -- what each is called at. The answer of `aabb2::add_point` is a, with the machine value u
+    -- what each is called at. The answer of `aabb2_from::add_point` is a, with the machine value u
     abbrev to-value : Value .Ghost
     to-value = ((tt, tt, tt, (x .now, (p, (r, tt))), (box-laws.lowered (x .now) ∷ [], (point-laws.lowered p ∷ [], (float-vals binary32 r, tt)))), tt)
 
@@ -99,7 +99,7 @@ module _ {M : Type 1} (𝓤 : URA M) (H : Heap 𝓤) (A : Atoms 𝓤) (mem : Mem
         move ! (14 ∷ 15 ∷ 16 ∷ []) $ opens ! tt B {h = h} (x .ptr .0) (x .ptr .1) (λ vs. spelt ! B (Is B) (shows 𝓤 H A B) (struct.vals box.the-type box-laws.the-laws) (struct.tells box.the-type box-laws.the-laws) fullShare h vs (x .ptr .0) (x .ptr .1) $
         move ! (1 ∷ []) $ facts ! B (Is B) (shows 𝓤 H A B) h (box-laws.lowered h ∷ []) (λ h-is.
         -- [the box; the open borrow; what is known of the box, twice; _6 at 4; _5 at 6; _4 at 8; _3 at 10; _2 at 12; _1 at 14; _0 at 16]
-        -- let wider = aabb2::add_point(*b, p, radius);
+        -- let wider = aabb2_from::add_point(*b, p, radius);
         assigns ! (of-opd ! (load ! (from ! (hop ! (look ! 14 refl) (stop !))) (look-raw ! 0 refl))) (from ! (stop !)) (init ! 6 refl (box-lawful .typed h _ h-is .0)) $
         calls-plain ! fm value.ended (value.clauses 𝓤 H A mem run) known-value to-value none none (box-made, (struct.makes point.the-type point-laws.the-plain 𝓤 H A, (float-makes 𝓤 H A W binary32, tt))) (h-is, (p-is, (r-is, tt))) (λ a. a ≡ addPointOf h p r) (λ a ws. id⊢ 𝓤 _)
         (and-then ! (load ! (from ! (stop !)) (look ! 7 refl)) (and-then ! (load ! (from ! (stop !)) (look ! 13 refl)) (and-then ! (load ! (from ! (stop !)) (look ! 11 refl)) (no-more !)))) (λ u a a-is wider.
@@ -128,7 +128,7 @@ add-point-spec 𝓤 H 𝓜 𝓖 𝓡 =
     let W : Given 𝓤 H A = givenOf 𝓤 H 𝓜 𝓖 in
     let 𝓣 : Tables 𝓤 H = tablesOf 𝓤 H 𝓜 (tables 𝓤 H 𝓜 𝓡 code.env) in
     let C : Contract 𝓤 = AddPoint 𝓤 H A (𝓜 .mem) (𝓡 .run) in
-    let known-value = cited 𝓤 H (Value 𝓤 H A (𝓜 .mem) (𝓡 .run)) 𝓜 𝓡 code.env value-def.name value-def.routine code.calls-aabb2·add-point (value-thm.met 𝓤 H 𝓜 𝓖 𝓡) in
+    let known-value = cited 𝓤 H (Value 𝓤 H A (𝓜 .mem) (𝓡 .run)) 𝓜 𝓡 code.env value-def.name value-def.routine code.calls-aabb2-from·add-point (value-thm.met 𝓤 H 𝓜 𝓖 𝓡) in
     let known-settled = cited 𝓤 H (Settled 𝓤 H A (𝓜 .mem) (𝓡 .run)) 𝓜 𝓡 code.env settled-def.name settled-def.routine code.calls-aabb2-lent·settled (settled-thm.met 𝓤 H 𝓜 𝓖 𝓡) in
     let known-answered = cited 𝓤 H (Answered 𝓤 H A (𝓜 .mem) (𝓡 .run)) 𝓜 𝓡 code.env answered-def.name answered-def.routine code.calls-aabb2-lent·answered (answered-thm.met 𝓤 H 𝓜 𝓖 𝓡) in
     entered 𝓤 H C (𝓣 .C) (𝓣 .Λ) key.name code.function (code.unfolded 𝓤 H 𝓜 𝓡) (λ y.

@@ -52,7 +52,7 @@ use Rattle.types.proofs.answer.Boxed as boxed
 use Rattle.types.proofs.answer.Boxed.Laws as boxed-laws
 use Rattle.types.proofs.answer.Widened as widened
 use Rattle.types.proofs.answer.Widened.Laws as widened-laws
-use Rattle.aabb2.specs.From.{addPointOf}
+use Rattle.aabb2_from.specs.From.{addPointOf}
 use Rattle.aabb2_lent.specs.Lent.{settledOf, answeredOf, boxedOf}
 use Rattle.aabb2_lent.proofs.Ends.{AddPoint, at}
 use Rattle.aabb2_lent.proofs.Local.{whole-again, lent-at, goes-in, hands}

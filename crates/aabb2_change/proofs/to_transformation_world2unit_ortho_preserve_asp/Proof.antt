@@ -1,0 +1,17 @@
+-- `aabb2_change::to_transformation_world2unit_ortho_preserve_asp` meets its contract, by what its calls ensure. Assumes nothing.
+use borrow.Author.Needs.{needs}
+use Rattle.aabb2_change.proofs.to_transformation_world2unit_ortho_preserve_asp.Statement.{statement}
+use Rattle.aabb2_change.proofs.to_transformation_world2unit_ortho_preserve_asp.Tie as tie
+
+center-requires : tie.Need-center-requires
+center-requires c κs = search needs
+
+max-edge-size-requires : tie.Need-max-edge-size-requires
+max-edge-size-requires c κs = search needs
+
+returns : tie.Need-returns
+returns c = rw (c .before .before .max-edge-size .ensures, c .before .before .before .center .ensures)
+
+pub to-transformation-world2unit-ortho-preserve-asp-spec : {M : Type 1} → statement M
+to-transformation-world2unit-ortho-preserve-asp-spec =
+    tie.close (tie.spec center-requires max-edge-size-requires returns)

@@ -1,0 +1,15 @@
+-- `aabb2_from::from_point` meets its contract: each answer is what the definition picks by the tests that led there. Assumes nothing.
+use Rattle.aabb2_from.specs.From.{fromPointOf}
+use Rattle.aabb2_from.proofs.from_point.Statement.{statement}
+use Rattle.aabb2_from.proofs.from_point.Tie as tie
+
+returns : tie.Need-returns
+unfolding fromPointOf
+returns c = rw (c .before .before .before .before .if1 .taken)
+
+returns-2 : tie.Need-returns-2
+unfolding fromPointOf
+returns-2 c = rw (c .if1 .left)
+
+pub from-point-spec : {M : Type 1} → statement M
+from-point-spec = tie.close (tie.spec returns returns-2)

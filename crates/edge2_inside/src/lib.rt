@@ -1,0 +1,43 @@
+// The length of an edge inside an upright box, as the Rust takes it.
+use types::Aabb2;
+use types::Extent;
+use types::Length;
+use types::Range;
+use types::Vec2;
+ghost use mathlib.Core.Path.{_≡_};
+ghost use Rattle.edge2_inside.specs.Ink.{sharedOf, intersectionLengthAgainstAabb2Of, inkOf};
+
+// What the box's range and the range between the edge's two ends share in one dimension.
+fn shared(low: f32, high: f32, s: f32, e: f32) -> Extent
+    ensures { λ r. ⌜ r ≡ sharedOf low high s e ⌝ }
+{
+    range::intersection_length(
+        Range { low, high },
+        Range {
+            low: float::min(s, e),
+            high: float::max(s, e),
+        },
+    )
+}
+
+// The diagonal of the two overlaps, in x and in y; 0 where there is none. Refused where a range is not ordered, y only once x has an overlap.
+pub fn intersection_length_against_aabb2(s: Vec2, e: Vec2, b: Aabb2) -> Length
+    ensures { λ r. ⌜ r ≡ intersectionLengthAgainstAabb2Of s e b ⌝ }
+{
+    match shared(b.min_x, b.max_x, s.x, e.x) {
+        Extent::None => Length::Some(0.0),
+        Extent::Refused(n) => Length::Refused(n),
+        Extent::Some(dx) => match shared(b.min_y, b.max_y, s.y, e.y) {
+            Extent::None => Length::Some(0.0),
+            Extent::Refused(n) => Length::Refused(n),
+            Extent::Some(dy) => Length::Some(root::sqrt(dx * dx + dy * dy)),
+        },
+    }
+}
+
+// The ink that one pen stroke leaves in one box.
+pub fn ink(s: Vec2, e: Vec2, b: Aabb2) -> Length
+    ensures { λ r. ⌜ r ≡ inkOf s e b ⌝ }
+{
+    intersection_length_against_aabb2(s, e, b)
+}
