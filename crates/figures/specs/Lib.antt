@@ -1,2 +1,5 @@
-pub mod Rows
+pub mod Table
 pub mod Starred
+pub mod Twins
+pub mod Further
+pub mod Claim

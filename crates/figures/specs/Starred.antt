@@ -1,51 +1,36 @@
--- The starred rows of document 01's table, in its order. Definitions only.
-use mathlib.Core.List.{List, [], _∷_, _++_, map}
-use Prim.Native.Nat.{suc}
-use mathlib.Core.Bool.{true, false}
-use lib.IntN.{ℤ, pos, negsuc}
-use lib.Ieee.{Float, binary32, round}
-use Rattle.types.specs.declared.shape.Vec2.{Vec2}
-use Rattle.types.specs.declared.shape.Range.{Range}
-use Rattle.types.specs.declared.shape.Aabb2.{Aabb2}
+-- The starred rows of document 01's table of figures, in its order, each under its words there. Definitions only.
+use mathlib.Core.List.{List, [], _∷_}
 use Rattle.types.specs.declared.answer.Interval.the-variants.{Miss, Hit}
 use Rattle.types.specs.declared.answer.Extent.the-variants as extent
 use Rattle.types.specs.declared.answer.Pixels.the-variants as pixels
-use Rattle.pixels.specs.Figures.{starredStrokes}
-use Rattle.tiles.specs.Figures.{starredTiles}
-use Rattle.figures.specs.Rows.{Row, line, ray, overlap, raster, tile, stroke}
+use Rattle.tiles.specs.Answer.{sheet}
+use Rattle.figures.specs.Table.{plus, minus, half, at, range, box, line, ray, overlap, raster, tiles, stroke}
 
--- half of a whole number, as an f32: `h (pos 5)` is 2.5
-unfoldable pub h : ℤ → Float
-h (pos n) = round binary32 false n 2
-h (negsuc n) = round binary32 true (suc n) 2
-
--- a whole number as an f32
-unfoldable pub i : ℤ → Float
-i (pos n) = round binary32 false n 1
-i (negsuc n) = round binary32 true (suc n) 1
-
-abbrev pub at : ℤ → ℤ → Vec2
-at x y = record { x = i x; y = i y }
-
-abbrev pub from : ℤ → ℤ → Range
-from low high = record { low = i low; high = i high }
-
-abbrev pub box : Float → Float → Float → Float → Aabb2
-box a b c d = record { «min_x» = a; «min_y» = b; «max_x» = c; «max_y» = d }
-
--- the box that the line and ray rows name or leave out
-abbrev pub face : Aabb2
-face = box (i (pos 0)) (i (pos 0)) (i (pos 4)) (i (pos 2))
-
-unfoldable pub starred : List Row
+abbrev pub starred : List (Type 0)
 starred =
-    line face (at (pos 6) (negsuc 0)) (at (negsuc 0) (pos 1)) (Hit (i (pos 2)) (i (pos 3)))
-    ∷ line face (at (pos 6) (negsuc 0)) (at (pos 1) (pos 1)) Miss
-    ∷ line (box (i (negsuc 3)) (i (pos 0)) (i (pos 0)) (i (pos 2))) (at (negsuc 5) (negsuc 0)) (at (pos 1) (pos 1)) (Hit (i (pos 2)) (i (pos 3)))
-    ∷ line face (at (pos 6) (pos 0)) (at (negsuc 0) (pos 1)) (Hit (i (pos 2)) (i (pos 2)))
-    ∷ line face (at (pos 5) (pos 1)) (at (pos 0) (pos 1)) Miss
-    ∷ ray face (at (pos 4) (pos 1)) (at (pos 1) (pos 0)) (Hit (i (negsuc 3)) (i (pos 0)))
-    ∷ overlap (from (pos 0) (pos 2)) (from (pos 2) (pos 3)) extent.None
-    ∷ overlap (from (pos 0) (pos 2)) (from (pos 1) (pos 3)) (extent.Some (i (pos 1)))
-    ∷ raster (box (h (pos 1)) (h (pos 1)) (h (pos 5)) (h (pos 3))) 4 4 (pixels.Some 0 0 2 1)
-    ∷ (map tile starredTiles ++ map stroke starredStrokes)
+    -- line, box 0 0 4 2, point 6 -1, direction -1 1: hit 2, 3
+    line (box (plus 0) (plus 0) (plus 4) (plus 2)) (at (plus 6) (minus 1)) (at (minus 1) (plus 1)) (Hit (plus 2) (plus 3))
+    -- same, direction 1 1: miss
+    ∷ line (box (plus 0) (plus 0) (plus 4) (plus 2)) (at (plus 6) (minus 1)) (at (plus 1) (plus 1)) Miss
+    -- box -4 0 0 2, point -6 -1, direction 1 1: hit 2, 3
+    ∷ line (box (minus 4) (plus 0) (plus 0) (plus 2)) (at (minus 6) (minus 1)) (at (plus 1) (plus 1)) (Hit (plus 2) (plus 3))
+    -- box 0 0 4 2, point 6 0, direction -1 1: hit 2, 2
+    ∷ line (box (plus 0) (plus 0) (plus 4) (plus 2)) (at (plus 6) (plus 0)) (at (minus 1) (plus 1)) (Hit (plus 2) (plus 2))
+    -- point 5 1, direction 0 1: miss
+    ∷ line (box (plus 0) (plus 0) (plus 4) (plus 2)) (at (plus 5) (plus 1)) (at (plus 0) (plus 1)) Miss
+    -- ray, point 4 1, direction 1 0: hit -4, 0
+    ∷ ray (box (plus 0) (plus 0) (plus 4) (plus 2)) (at (plus 4) (plus 1)) (at (plus 1) (plus 0)) (Hit (minus 4) (plus 0))
+    -- overlap of 0..2 and 2..3: none; of 0..2 and 1..3 it is 1
+    ∷ overlap (range (plus 0) (plus 2)) (range (plus 2) (plus 3)) extent.None
+    ∷ overlap (range (plus 0) (plus 2)) (range (plus 1) (plus 3)) (extent.Some (plus 1))
+    -- raster 0.5 0.5 2.5 1.5, image 4 by 4: 0 0 2 1
+    ∷ raster (box (half 1) (half 1) (half 5) (half 3)) 4 4 (pixels.Some 0 0 2 1)
+    -- tiles 10 10 40 20, size 16, shape 4 by 3: 0 1 2 4 5 6
+    ∷ tiles (box (plus 10) (plus 10) (plus 40) (plus 20)) (sheet 16 4 3) (0 ∷ 1 ∷ 2 ∷ 4 ∷ 5 ∷ 6 ∷ [])
+    -- tiles 10 10 32 15, same: 0 1 2
+    ∷ tiles (box (plus 10) (plus 10) (plus 32) (plus 15)) (sheet 16 4 3) (0 ∷ 1 ∷ 2 ∷ [])
+    -- tiles -20 -20 -1 5, same: none, accepted
+    ∷ tiles (box (minus 20) (minus 20) (minus 1) (plus 5)) (sheet 16 4 3) []
+    -- stroke 0.5 3.5 to 3.5 0.5, image 8 by 8: 24 17 10 3 4
+    ∷ stroke (at (half 1) (half 7)) (at (half 7) (half 1)) 8 8 (24 ∷ 17 ∷ 10 ∷ 3 ∷ 4 ∷ [])
+    ∷ []

@@ -10,5 +10,4 @@ pub mod Apart
 pub mod Slopes
 pub mod Accepted
 pub mod Lists
-pub mod Figures
 pub mod Post

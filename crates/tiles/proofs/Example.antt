@@ -5,16 +5,19 @@ use mathlib.Core.List.{[], _∷_}
 use lib.Dec.{lit≤}
 use lib.IntN.{pos}
 use lib.Signed.{leZ-yes}
-use lib.Ieee.{fits, div, ofInt}
+use Prim.Native.Nat.{ℕ}
+use lib.Ieee.{Float, binary32, fits, div, ofInt}
 use Rattle.types.specs.declared.shape.Aabb2.{Aabb2}
 use Rattle.tiles.specs.Cover.{Premises, Smallest}
 use Rattle.tiles.specs.Tiles.{tilesOf}
 use Rattle.tiles.specs.Answer.{sheet}
-use Rattle.tiles.specs.Figures.{boxOf}
 use Rattle.tiles.proofs.Promised.{Floats, listed}
 
+abbrev whole : ℕ → Float
+whole n = ofInt binary32 (pos n)
+
 abbrev box1 : Aabb2
-box1 = boxOf (pos 10) (pos 10) (pos 40) (pos 20)
+box1 = record { «min_x» = whole 10; «min_y» = whole 10; «max_x» = whole 40; «max_y» = whole 20 }
 
 floats : Floats box1
 unfolding fits ofInt

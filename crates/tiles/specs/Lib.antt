@@ -4,4 +4,3 @@ pub mod Tiles
 pub mod Answer
 pub mod Promise
 pub mod Rust
-pub mod Figures

@@ -1,0 +1,77 @@
+-- How document 01's table of figures is written: its numbers, its shapes, and what a row of each kind says. Definitions only.
+use mathlib.Core.Path.{_≡_}
+use Prim.{Unit}
+use mathlib.Core.Bool.{true, false}
+use mathlib.Core.List.{List, [], _∷_}
+use Prim.Native.Nat.{ℕ, _-_}
+use lib.ListN.{length}
+use lib.Ieee.{Float, binary32, round}
+use Rattle.types.specs.declared.shape.Vec2.{Vec2}
+use Rattle.types.specs.declared.shape.Range.{Range}
+use Rattle.types.specs.declared.shape.Aabb2.{Aabb2}
+use Rattle.types.specs.declared.answer.Interval.{Interval}
+use Rattle.types.specs.declared.answer.Extent.{Extent}
+use Rattle.types.specs.declared.answer.Pixels.{Pixels}
+use Rattle.types.specs.declared.answer.Listed.the-variants.{Count, Refused}
+use Rattle.range.specs.Values.{intersectionLengthOf}
+use Rattle.aabb.specs.Clip.{clipOf, rayOf}
+use Rattle.aabb2.specs.Raster.{rasterizeOf}
+use Rattle.tiles.specs.Sheet.{Sheet}
+use Rattle.tiles.specs.Tiles.{tilesOf}
+use Rattle.tiles.specs.Answer.{overlappingTilesOf}
+use Rattle.pixels.specs.Entries.{strokeOf}
+use Rattle.pixels.specs.Answer.{overlappingPixelsDdaOf}
+
+-- ---- numbers, each an f32: `plus 4`, `minus 1`, and `half 7` for 3.5
+
+abbrev pub plus : ℕ → Float
+plus n = round binary32 false n 1
+
+abbrev pub minus : ℕ → Float
+minus n = round binary32 true n 1
+
+abbrev pub half : ℕ → Float
+half n = round binary32 false n 2
+
+-- ---- shapes
+
+abbrev pub at : Float → Float → Vec2
+at x y = record { x = x; y = y }
+
+abbrev pub range : Float → Float → Range
+range low high = record { low = low; high = high }
+
+abbrev pub box : Float → Float → Float → Float → Aabb2
+box a b c d = record { «min_x» = a; «min_y» = b; «max_x» = c; «max_y» = d }
+
+-- ---- rows: what is asked, and that the definition answers it so
+
+-- a line or a ray by its point and its direction
+abbrev pub line : Aabb2 → Vec2 → Vec2 → Interval → Type 0
+line b point direction answer = clipOf b point direction ≡ answer
+
+abbrev pub ray : Aabb2 → Vec2 → Vec2 → Interval → Type 0
+ray b point direction answer = rayOf (clipOf b point direction) ≡ answer
+
+abbrev pub overlap : Range → Range → Extent → Type 0
+overlap a b answer = intersectionLengthOf a b ≡ answer
+
+abbrev pub raster : Aabb2 → ℕ → ℕ → Pixels → Type 0
+raster b width height answer = rasterizeOf b width height ≡ answer
+
+-- the tiles are these, and a list with just room for them is accepted
+abbrev pub tiles : Aabb2 → Sheet → List ℕ → Type 0
+tiles b sheet numbers = (tilesOf sheet b ≡ numbers) × (overlappingTilesOf sheet b (length numbers) ≡ Count (length numbers))
+
+-- the same of a stroke's entries; and a list shorter by one is refused
+abbrev pub stroke : Vec2 → Vec2 → ℕ → ℕ → List ℕ → Type 0
+stroke p q width height numbers =
+    (strokeOf width height p q ≡ numbers)
+    × (overlappingPixelsDdaOf width height p q (length numbers) ≡ Count (length numbers))
+    × (overlappingPixelsDdaOf width height p q (length numbers - 1) ≡ Refused 1)
+
+-- ---- the claim about a list of rows: each of them holds
+
+abbrev pub Hold : List (Type 0) → Type 0
+Hold [] = Unit {0}
+Hold (row ∷ rows) = row × Hold rows
