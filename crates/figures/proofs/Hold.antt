@@ -5,7 +5,7 @@ use Rattle.float.specs.Values.{absOf, minOf, maxOf}
 use Rattle.rounding.specs.Values.{wholeOf, ceilOf}
 use Rattle.aabb.specs.Clip.{narrow, narrowAll, ordered, clipOver, clipOf, rayOf}
 use Rattle.range.specs.Values.{intersectionLengthOf}
-use Rattle.aabb2.specs.Raster.{rasterizeOf}
+use Rattle.aabb2_raster.specs.Raster.{rasterizeOf}
 use Rattle.tiles.specs.Tiles.{tilesOf}
 use Rattle.tiles.specs.Answer.{overlappingTilesOf}
 use Rattle.pixels.specs.Walk.{stepOf, axisOf, at, within, inRanges, leaves, exit, upto, positions}

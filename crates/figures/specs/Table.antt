@@ -15,7 +15,7 @@ use Rattle.types.specs.declared.answer.Pixels.{Pixels}
 use Rattle.types.specs.declared.answer.Listed.the-variants.{Count, Refused}
 use Rattle.range.specs.Values.{intersectionLengthOf}
 use Rattle.aabb.specs.Clip.{clipOf, rayOf}
-use Rattle.aabb2.specs.Raster.{rasterizeOf}
+use Rattle.aabb2_raster.specs.Raster.{rasterizeOf}
 use Rattle.tiles.specs.Sheet.{Sheet}
 use Rattle.tiles.specs.Tiles.{tilesOf}
 use Rattle.tiles.specs.Answer.{overlappingTilesOf}
