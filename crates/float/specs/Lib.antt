@@ -1,6 +1,5 @@
 pub mod Fields
 pub mod Folds
-pub mod Laws
 pub mod Rounded
 pub mod Units
 pub mod Values

@@ -11,7 +11,8 @@ use lib.Pow.{pow-pos}
 use lib.Ieee.{Float, nan, inf, fin, binary32, ofFields, ofBits, toBits, nanBits, isNan, ne, fits}
 use lib.Ieee.Bits.{ofBits-toBits, nanBits-above}
 use lib.Ieee.Exact.{HasValue}
-use Rattle.float.specs.Fields.{fieldUnits, field-value}
+use Rattle.float.specs.Fields.{fieldUnits}
+use Rattle.float.proofs.Fields.{field-value}
 use Rattle.float.specs.Units.{inUnits}
 use Rattle.root.proofs.Units.{units-of}
 

@@ -15,7 +15,8 @@ use lib.Ieee.Fits.{down-pos}
 use lib.Ieee.Nearest.{div-same}
 use lib.Ieee.Scale.{finite}
 use borrow.Author.Tests.{leb-false}
-use Rattle.float.specs.Fields.{fieldUnits, field-value, field-top}
+use Rattle.float.specs.Fields.{fieldUnits}
+use Rattle.float.proofs.Fields.{field-value, field-top}
 use Rattle.rounding.proofs.Sizes.{pow2, Under, under, part, unsigned, over-zero, one-size}
 
 -- ---- the field of a number is not the highest

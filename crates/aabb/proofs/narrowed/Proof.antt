@@ -1,6 +1,6 @@
 -- `aabb::narrowed` meets its contract: each answer is what `narrow` picks by the tests that led there. Assumes nothing.
 use borrow.Author.Needs.{needs}
-use Rattle.float.specs.Laws.{mended-min, mended-max}
+use Rattle.float.proofs.Laws.{mended-min, mended-max}
 use Rattle.float.specs.Rounded.{_⊖_, _⊘_}
 use Rattle.aabb.specs.Clip.{narrow}
 use Rattle.aabb.proofs.narrowed.Statement.{statement}

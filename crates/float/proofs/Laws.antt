@@ -1,5 +1,5 @@
 -- What document 01 says of the minimum and the maximum, and when one test is enough for them. Assumes nothing.
-use mathlib.Core.Path.{_≡_, refl, sym, ap, _∙_}
+use mathlib.Core.Path.{_≡_, refl, sym}
 use mathlib.Core.Bool.{Bool, true, false, cond}
 use lib.IntN.{pos}
 use lib.Ieee.{Float, nan, inf, fin, lt, isNan}
@@ -97,10 +97,3 @@ lesser-number a b h = kept (lt b a) a b h (below-number b a)
 pub greater-number : (a b : Float) → isNan a ≡ false → isNan (greaterOf a b) ≡ false
 unfolding greaterOf
 greater-number a b h = kept (lt a b) a b h (above-number a b)
-
--- the two ends of a narrowed interval
-pub low-end : (t a b : Float) → isNan t ≡ false → greaterOf t (lesserOf (numberOr a b) b) ≡ maxOf t (minOf a b)
-low-end t a b h = ap (greaterOf t) (mended-min a b) ∙ greater-max t (minOf a b) h
-
-pub high-end : (t a b : Float) → isNan t ≡ false → lesserOf t (greaterOf (numberOr a b) b) ≡ minOf t (maxOf a b)
-high-end t a b h = ap (lesserOf t) (mended-max a b) ∙ lesser-min t (maxOf a b) h
