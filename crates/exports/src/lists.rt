@@ -7,8 +7,8 @@ ghost use lib.ListN.{length};
 ghost use Rattle.exports.specs.Answers.{ofListed};
 ghost use Rattle.pixels.specs.Entries.{strokeOf};
 ghost use Rattle.pixels.specs.Answer.{overlappingPixelsDdaOf, written};
-ghost use Rattle.tiles.specs.Tiles.{tilesOf};
-ghost use Rattle.tiles.specs.Answer.{sheet, overlappingTilesOf, leftOf};
+ghost use Rattle.tiles.specs.Answer.{sheet, overlappingTilesOf};
+ghost use Rattle.tiles.specs.Promise.{Promise};
 
 #[no_mangle]
 pub extern "C" fn bgz_aabb2_overlapping_tiles(
@@ -19,7 +19,7 @@ pub extern "C" fn bgz_aabb2_overlapping_tiles(
     out: &mut [u32],
 ) -> CountAnswer
     ensures answers { λ r. ⌜ r ≡ ofListed (overlappingTilesOf (sheet size «shape_width» «shape_height») b (length (now (out .entry)))) ⌝ }
-    ensures leaves { λ r. ⌜ now (out .exit) ≡ leftOf (tilesOf (sheet size «shape_width» «shape_height») b) (now (out .entry)) (overlappingTilesOf (sheet size «shape_width» «shape_height») b (length (now (out .entry)))) ⌝ }
+    ensures promises { λ r. ⌜ Promise (sheet size «shape_width» «shape_height») b (now (out .entry)) (overlappingTilesOf (sheet size «shape_width» «shape_height») b (length (now (out .entry)))) (now (out .exit)) ⌝ }
 {
     crate::answers::listed(tiles::overlapping_tiles(b, size, shape_width, shape_height, out))
 }

@@ -1,7 +1,6 @@
 -- `exports::bgz_aabb2_overlapping_tiles` meets its contract, by what its calls ensure. Assumes nothing.
 use mathlib.Core.Path.{ap, _∙_}
 use borrow.Author.Needs.{needs}
-use Rattle.tiles.specs.Answer.{leftOf}
 use Rattle.exports.specs.Answers.{ofListed}
 use Rattle.exports.proofs.lists.bgz_aabb2_overlapping_tiles.Statement.{statement}
 use Rattle.exports.proofs.lists.bgz_aabb2_overlapping_tiles.Tie as tie
@@ -18,7 +17,7 @@ same-length c = search needs
 returns : tie.Need-returns
 returns c =
     let told = c .before .before .before .overlapping-tiles .ensures in
-    (c .listed .ensures ∙ ap ofListed (told .answers), told .leaves ∙ ap (leftOf _ _) (told .answers))
+    (c .listed .ensures ∙ ap ofListed (told .answers), rw (told .answers) at told)
 
 pub bgz-aabb2-overlapping-tiles-spec : {M : Type 1} → statement M
 bgz-aabb2-overlapping-tiles-spec =
