@@ -2,9 +2,10 @@
 //!
 //! Each loop is compiled for its own routine, so that the calls take the time and the tables do not.
 
+use crate::answer::same_number;
+use crate::ask::Args;
 use crate::options::Options;
-use crate::pairs::pair;
-use ask::{Args, same_number};
+use crate::pairs::named;
 use bagnoszyk::f32 as ours;
 use num_traits::float::Float;
 use std::thread;
@@ -33,7 +34,7 @@ pub fn run(options: &Options) -> Result<(), String> {
         let start = Instant::now();
         if let Some(x) = search() {
             let args = Args { floats: vec![x], wholes: vec![] };
-            let told = pair(name)?.compare(&args);
+            let told = named(name)?.compare(&args);
             return Err(told.expect_err("the tables call the same functions"));
         }
         let seconds = start.elapsed().as_secs_f64();

@@ -16,7 +16,7 @@ pub fn run(options: &Options) -> Result<(), String> {
         for _ in 0..count {
             pair.compare(inputs.next())?;
         }
-        println!("{} {count} inputs, no difference", pair.name());
+        println!("{} {count} inputs, no difference", pair.row.name);
     }
     let total = pairs.len() as u64 * count;
     println!("{} routines, {total} inputs, no difference, seed {}", pairs.len(), options.seed);

@@ -10,9 +10,9 @@ mod wholes;
 pub use kinds::{Kind, mirror};
 pub use source::Source;
 
+use crate::ask::Args;
 use crate::judge::Row;
 use crate::random::Random;
-use ask::Args;
 
 pub struct Inputs {
     row: &'static Row,

@@ -13,8 +13,9 @@ mod vec2;
 
 pub use panics::silence as silence_panics;
 
+use crate::answer::Answer;
+use crate::ask::Args;
 use crate::inputs::Kind;
-use ask::{Answer, Args};
 
 /// A routine of the Rust.
 pub struct Row {
@@ -43,13 +44,14 @@ impl Row {
         Row { domain, ..self }
     }
 
-    pub fn signature(&self) -> String {
-        self.shape.iter().map(|kind| kind.signature()).collect()
+    /// A letter for each argument, as the library's table has it.
+    pub fn takes(&self) -> String {
+        self.shape.iter().map(|kind| kind.takes()).collect()
     }
 
     /// The Rust's answer; nothing if it panics and no refusal stands for that.
     pub fn answer(&self, args: &Args) -> Option<Answer> {
-        panics::caught(|| (self.call)(args)).or(self.panic.map(Answer::Refused))
+        panics::caught(|| (self.call)(args)).or(self.panic.map(Answer::refused))
     }
 }
 

@@ -1,6 +1,8 @@
 //! The live comparison: the library and the Rust are given the same inputs, and their answers are compared.
 
 mod all;
+mod answer;
+mod ask;
 mod compare;
 mod cover;
 mod figures;

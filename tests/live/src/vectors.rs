@@ -27,9 +27,8 @@ fn print(pair: &Pair, seed: u64, count: usize) -> Result<(), String> {
             break;
         }
         let args = inputs.next_special(i);
-        let request = pair.request(args);
-        let answer = pair.row.answer(args).ok_or(format!("{request}: the Rust panicked"))?;
-        let row = format!("{request} = {answer}");
+        let request = pair.routine.request(args);
+        let row = format!("{request} = {}", pair.rust_line(args)?);
         // A long list says no more than a short one, and a row should fit a screen.
         if row.len() < 300 && printed.insert(request) {
             println!("{row}");

@@ -27,7 +27,8 @@ pub enum Kind {
 }
 
 impl Kind {
-    pub fn signature(self) -> &'static str {
+    /// A letter for each of its numbers: f is a float, u a whole number, r the room of a list, F a list of floats.
+    pub fn takes(self) -> &'static str {
         match self {
             Kind::Float | Kind::Radius => "f",
             Kind::Range | Kind::Point | Kind::Direction => "ff",
@@ -35,15 +36,15 @@ impl Kind {
             Kind::TurnedBox => "ffffff",
             Kind::Matrix => "fffffffff",
             Kind::Side | Kind::Index => "u",
-            Kind::Floats => "f*",
-            Kind::Stroke => "uuffffu",
-            Kind::Tiles => "ffffuuuu",
+            Kind::Floats => "F",
+            Kind::Stroke => "uuffffr",
+            Kind::Tiles => "ffffuuur",
         }
     }
 
     /// The number of its floats; a list has any number.
     pub fn floats(self) -> Option<usize> {
-        let letters = self.signature().bytes();
+        let letters = self.takes().bytes();
         (self != Kind::Floats).then(|| letters.filter(|letter| *letter == b'f').count())
     }
 

@@ -3,8 +3,8 @@
 use super::Kind;
 use super::source::Source;
 use super::wholes;
+use crate::ask::Args;
 use crate::random::Random;
-use ask::Args;
 
 /// Adds an argument.
 pub fn make(kind: Kind, source: Source, random: &mut Random, args: &mut Args) {

@@ -1,8 +1,9 @@
 //! aabb2.rs
 
 use super::{Row, limits, row};
+use crate::answer::Answer;
+use crate::ask::Args;
 use crate::inputs::Kind::{Box, Float, Floats, Index, Matrix, Point, Radius, Side, Tiles};
-use ask::{Answer, Args};
 use del_geo_core::aabb2;
 
 pub const ROWS: &[Row] = &[

@@ -1,8 +1,9 @@
 //! edge2.rs
 
 use super::{Row, limits, row};
+use crate::answer::Answer;
+use crate::ask::Args;
 use crate::inputs::Kind::{Box, Float, Point, Stroke};
-use ask::{Answer, Args};
 use del_geo_core::edge2;
 
 pub const ROWS: &[Row] = &[

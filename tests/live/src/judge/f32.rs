@@ -1,6 +1,7 @@
 //! Rust's own functions on f32, called as the Rust calls them, through num-traits.
 
 use super::{Row, row};
+use crate::answer::same_number;
 use crate::inputs::Kind::Float as F;
 use num_traits::float::Float;
 
@@ -28,7 +29,7 @@ fn clamp(x: f32, low: f32, high: f32) -> f32 {
         x
     };
     if low <= high {
-        assert!(ask::same_number(clamped, x.clamp(low, high)));
+        assert!(same_number(clamped, x.clamp(low, high)));
     }
     clamped
 }

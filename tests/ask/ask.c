@@ -1,0 +1,77 @@
+#include "ask.h"
+#include "bagnoszyk.h"
+#include <stdio.h>
+#include <stdlib.h>
+#include <string.h>
+
+/* Entries behind a lent list that are looked at with it. */
+enum { GUARD = 16 };
+
+/* No routine lists more: every tile of the largest sheet. */
+static const uint64_t MOST_ENTRIES = UINT64_C(16384) * 16384;
+
+const struct routine *routine_named(const char *name) {
+    for (size_t i = 0; i < routine_count; i++)
+        if (routines[i].name != NULL && strcmp(routines[i].name, name) == 0)
+            return &routines[i];
+    return NULL;
+}
+
+static uint32_t pattern(size_t place) {
+    return UINT32_C(0x5a5a5a5a) ^ (uint32_t)place;
+}
+
+static uint32_t *lend(size_t room) {
+    uint32_t *list = malloc((room + GUARD) * sizeof *list);
+    if (list == NULL) {
+        fprintf(stderr, "no memory for a list of %zu entries\n", room);
+        exit(1);
+    }
+    for (size_t i = 0; i < room + GUARD; i++)
+        list[i] = pattern(i);
+    return list;
+}
+
+/* Whether more was written than there was room for, or an entry after what was written, the guard among them. */
+static bool is_damaged(const uint32_t *list, size_t written, size_t room) {
+    if (written > room)
+        return true;
+    for (size_t i = written; i < room + GUARD; i++)
+        if (list[i] != pattern(i))
+            return true;
+    return false;
+}
+
+/* The floats that are no list's, and the place of the first room among the whole numbers. */
+static size_t single_floats(const char *takes) {
+    size_t count = 0;
+    for (; *takes != '\0'; takes++)
+        count += *takes == 'f';
+    return count;
+}
+
+static size_t place_of_room(const char *takes) {
+    size_t place = 0;
+    for (; *takes != 'r'; takes++)
+        place += *takes == 'u';
+    return place;
+}
+
+struct reply ask(const struct routine *routine, const float *floats, size_t float_count, const uint64_t *wholes) {
+    struct arguments in = {.floats = floats, .wholes = wholes};
+    struct reply reply = {.list = NULL, .damaged = false};
+    if (routine->lists[0] == 'F') {
+        size_t single = single_floats(routine->takes);
+        in.lists[0] = (struct list){(void *)(floats + single), float_count - single};
+    } else if (routine->lists[0] == 'u') {
+        uint64_t room = wholes[place_of_room(routine->takes)];
+        in.lists[0].length = room < MOST_ENTRIES ? room : MOST_ENTRIES;
+        in.lists[0].start = reply.list = lend(in.lists[0].length);
+    }
+    routine->call(&in, &reply.answer);
+    if (reply.list != NULL) {
+        size_t written = reply.answer.status == BGZ_ANSWERED ? reply.answer.values[0].u : 0;
+        reply.damaged = is_damaged(reply.list, written, in.lists[0].length);
+    }
+    return reply;
+}

@@ -1,0 +1,42 @@
+/* Asking a routine, by numbers and by text. docs/GUIDE.md ("Ask it") describes the text. */
+#ifndef ASK_H
+#define ASK_H
+
+#include "routines.h"
+#include <stdbool.h>
+
+/* What came back from a routine. */
+struct reply {
+    struct answer answer;
+    /* The list that was lent, if one was; the asker frees it. */
+    uint32_t *list;
+    /* An entry was touched that should not have been. */
+    bool damaged;
+};
+
+/* A request as it was read. */
+struct request {
+    const struct routine *routine;
+    /* Its floats, those of a list too, in their order; the reader frees them. */
+    float *floats;
+    size_t float_count;
+    /* Its whole numbers, rooms among them, in their order. */
+    uint64_t wholes[MOST_WHOLES];
+    /* Why it is a bad request, if it is. */
+    char reason[200];
+};
+
+/* The routine of this name, or null. */
+const struct routine *routine_named(const char *name);
+
+/* Calls a routine. A list that it writes to is lent with a pattern in every entry, and looked at afterwards. */
+struct reply ask(const struct routine *routine, const float *floats, size_t float_count, const uint64_t *wholes);
+
+/* Reads a line, which is cut into its fields. False if it is a bad request: then there is a reason. */
+bool read_request(char *line, struct request *request);
+
+/* A request as a line, and a reply as one, floats as their bits or as decimals. The caller frees them. */
+char *request_text(const struct routine *routine, const float *floats, size_t float_count, const uint64_t *wholes);
+char *reply_text(const struct routine *routine, const struct reply *reply, bool decimal);
+
+#endif

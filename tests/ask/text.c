@@ -1,0 +1,197 @@
+#define _POSIX_C_SOURCE 200809L /* open_memstream */
+#include "ask.h"
+#include "bagnoszyk.h"
+#include <errno.h>
+#include <inttypes.h>
+#include <math.h>
+#include <stdio.h>
+#include <stdlib.h>
+#include <string.h>
+
+#define DIGITS "0123456789"
+#define HEX_DIGITS DIGITS "abcdefABCDEF"
+
+static bool has_only(const char *field, const char *characters) {
+    return field[0] != '\0' && field[strspn(field, characters)] == '\0';
+}
+
+/* ---- numbers */
+
+/*
+ * Eight hexadecimal digits are a float's bits; anything else is a decimal. Seven of them, or nine and more, are neither:
+ * those are more likely bits with a digit lost or added, and a decimal has another way to be written, with a point.
+ */
+static bool read_float(const char *field, float *x) {
+    size_t length = strlen(field);
+    if (has_only(field, HEX_DIGITS) && length >= 7) {
+        uint32_t bits = (uint32_t)strtoul(field, NULL, 16);
+        memcpy(x, &bits, sizeof bits);
+        return length == 8;
+    }
+    /* With these characters strtof reads decimals alone, and rounds them to the nearest float. */
+    char *end;
+    *x = strtof(field, &end);
+    return has_only(field, DIGITS ".eE+-") && field[0] != '+' && *end == '\0' && isfinite(*x);
+}
+
+static bool read_whole(const char *field, uint64_t *n) {
+    errno = 0;
+    *n = strtoull(field, NULL, 10);
+    return has_only(field, DIGITS) && errno == 0;
+}
+
+/* Any zero as +0, any NaN as nan. Nine digits tell every float from its neighbours. */
+static void write_float(FILE *out, float x, bool decimal) {
+    uint32_t bits;
+    memcpy(&bits, &x, sizeof bits);
+    if (isnan(x))
+        fputs("nan", out);
+    else if (decimal)
+        fprintf(out, "%.9g", x == 0 ? 0.0 : (double)x);
+    else
+        fprintf(out, "%08" PRIx32, x == 0 ? 0 : bits);
+}
+
+/* ---- requests */
+
+/* The next field, ended where it stands; null if there is none. */
+static char *next_field(char **rest) {
+    char *field = *rest;
+    if (field != NULL) {
+        char *space = strchr(field, ' ');
+        if (space != NULL)
+            *space++ = '\0';
+        *rest = space;
+    }
+    return field;
+}
+
+static size_t count_fields(const char *rest) {
+    size_t count = rest != NULL;
+    for (; rest != NULL && *rest != '\0'; rest++)
+        count += *rest == ' ';
+    return count;
+}
+
+/* The name of the field at a place, and its length. */
+static const char *field_name(const struct routine *routine, size_t place, int *length) {
+    const char *name = routine->fields;
+    for (; place > 0; place--)
+        name = strchr(name, ' ') + 1;
+    *length = (int)strcspn(name, " ");
+    return name;
+}
+
+/* Whether there are as many fields as a routine takes; a list takes any number. */
+static bool right_count(struct request *request, size_t given) {
+    const struct routine *routine = request->routine;
+    size_t single = strcspn(routine->takes, "F");
+    bool list = routine->takes[single] == 'F';
+    if (given == single || (list && given > single))
+        return true;
+    snprintf(request->reason, sizeof request->reason, "%s takes %zu numbers%s, %zu given", routine->name, single,
+             list ? " and a list" : "", given);
+    return false;
+}
+
+static bool read_field(struct request *request, char letter, const char *field, size_t *whole_count) {
+    if (letter == 'f' || letter == 'F')
+        return read_float(field, &request->floats[request->float_count++]);
+    return read_whole(field, &request->wholes[(*whole_count)++]);
+}
+
+static bool read_fields(struct request *request, char *rest) {
+    const char *takes = request->routine->takes;
+    size_t place = 0, whole_count = 0;
+    for (char *field; (field = next_field(&rest)) != NULL;) {
+        if (!read_field(request, takes[place], field, &whole_count)) {
+            int length;
+            const char *name = field_name(request->routine, place, &length);
+            bool whole = takes[place] == 'u' || takes[place] == 'r';
+            snprintf(request->reason, sizeof request->reason, "%s: %.*s is '%.40s', which is %s", request->routine->name,
+                     length, name, field,
+                     whole ? "no whole number of 64 bits" : "neither eight hexadecimal digits nor a decimal");
+            return false;
+        }
+        /* A list goes on to the end. */
+        place += takes[place] != 'F';
+    }
+    return true;
+}
+
+bool read_request(char *line, struct request *request) {
+    size_t most = strlen(line);
+    char *rest = line;
+    char *name = next_field(&rest);
+    *request = (struct request){.routine = routine_named(name)};
+    if (request->routine == NULL) {
+        snprintf(request->reason, sizeof request->reason, "no routine is named '%.60s'", name);
+        return false;
+    }
+    if (!right_count(request, count_fields(rest)))
+        return false;
+    request->floats = calloc(most + 1, sizeof *request->floats);
+    return request->floats != NULL && read_fields(request, rest);
+}
+
+/* ---- as text */
+
+/* A stream into memory, whose text is handed on when it is closed. */
+static FILE *open_text(char **text, size_t *length) {
+    FILE *out = open_memstream(text, length);
+    if (out == NULL) {
+        perror("no memory for a line");
+        exit(1);
+    }
+    return out;
+}
+
+char *request_text(const struct routine *routine, const float *floats, size_t float_count, const uint64_t *wholes) {
+    char *text;
+    size_t length;
+    FILE *out = open_text(&text, &length);
+    const float *end = floats + float_count;
+    fputs(routine->name, out);
+    for (const char *letter = routine->takes; *letter != '\0'; letter++) {
+        if (*letter == 'u' || *letter == 'r')
+            fprintf(out, " %" PRIu64, *wholes++);
+        for (bool more = *letter == 'f' || *letter == 'F'; more && floats < end; more = *letter == 'F') {
+            uint32_t bits;
+            memcpy(&bits, floats++, sizeof bits);
+            fprintf(out, " %08" PRIx32, bits);
+        }
+    }
+    fclose(out);
+    return text;
+}
+
+static void write_value(FILE *out, char letter, union value value, const uint32_t *list, bool decimal) {
+    if (letter == 'f')
+        write_float(out, value.f, decimal);
+    else if (letter == 'i')
+        fprintf(out, "%" PRId64, value.i);
+    else
+        fprintf(out, "%" PRIu64, value.u);
+    if (letter == 'l')
+        for (uint64_t i = 0; i < value.u; i++)
+            fprintf(out, " %" PRIu32, list[i]);
+}
+
+char *reply_text(const struct routine *routine, const struct reply *reply, bool decimal) {
+    char *text;
+    size_t length;
+    FILE *out = open_text(&text, &length);
+    if (reply->damaged)
+        fputs("damaged", out);
+    else if (reply->answer.status == BGZ_NONE)
+        fputs("none", out);
+    else if (reply->answer.status != BGZ_ANSWERED)
+        fprintf(out, "refused %" PRIu32, reply->answer.status);
+    else
+        for (size_t i = 0; routine->gives[i] != '\0'; i++) {
+            fputs(i == 0 ? "" : " ", out);
+            write_value(out, routine->gives[i], reply->answer.values[i], reply->list, decimal);
+        }
+    fclose(out);
+    return text;
+}

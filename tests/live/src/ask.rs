@@ -1,0 +1,179 @@
+//! The library, asked through the table that ./ask has: numbers in, numbers out. Only what is printed goes through text.
+
+use crate::answer::{Answer, MOST_VALUES};
+use std::ffi::{CStr, CString, c_char, c_void};
+use std::{ptr, slice};
+
+/// The arguments of a request: its floats in their order, and its whole numbers in theirs, rooms among them.
+#[derive(Clone, Debug, Default)]
+pub struct Args {
+    pub floats: Vec<f32>,
+    pub wholes: Vec<u64>,
+}
+
+impl Args {
+    /// The float at a place.
+    pub fn f(&self, at: usize) -> f32 {
+        self.floats[at]
+    }
+
+    /// The whole number at a place.
+    pub fn u(&self, at: usize) -> u64 {
+        self.wholes[at]
+    }
+
+    /// N floats from a place on.
+    pub fn fs<const N: usize>(&self, at: usize) -> [f32; N] {
+        std::array::from_fn(|i| self.floats[at + i])
+    }
+}
+
+/// A row of the table: `struct routine` of tests/ask/routines.h.
+#[repr(C)]
+pub struct Routine {
+    name: *const c_char,
+    function: *const c_char,
+    call: *const c_void,
+    takes: *const c_char,
+    lists: *const c_char,
+    gives: *const c_char,
+    fields: *const c_char,
+}
+
+/// What tests/ask/ask.h declares.
+mod c {
+    use super::*;
+
+    #[repr(C)]
+    #[derive(Clone, Copy)]
+    pub union Value {
+        pub float: f32,
+        pub whole: u64,
+    }
+
+    #[repr(C)]
+    pub struct Reply {
+        pub status: u32,
+        pub values: [Value; MOST_VALUES],
+        pub list: *mut u32,
+        pub damaged: bool,
+    }
+
+    #[repr(C)]
+    pub struct Request {
+        pub routine: *const Routine,
+        pub floats: *mut f32,
+        pub float_count: usize,
+        pub wholes: [u64; 8],
+        pub reason: [c_char; 200],
+    }
+
+    unsafe extern "C" {
+        pub static routines: Routine;
+        pub static routine_count: usize;
+        pub fn ask(
+            r: *const Routine,
+            floats: *const f32,
+            count: usize,
+            wholes: *const u64,
+        ) -> Reply;
+        pub fn read_request(line: *mut c_char, request: *mut Request) -> bool;
+        pub fn request_text(
+            r: *const Routine,
+            floats: *const f32,
+            count: usize,
+            wholes: *const u64,
+        ) -> *mut c_char;
+        pub fn reply_text(r: *const Routine, reply: *const Reply, decimal: bool) -> *mut c_char;
+        pub fn free(start: *mut c_void);
+    }
+}
+
+/// The routines that have requests.
+pub fn all() -> impl Iterator<Item = &'static Routine> {
+    let table = unsafe { slice::from_raw_parts(&raw const c::routines, c::routine_count) };
+    table.iter().filter(|routine| !routine.name.is_null())
+}
+
+pub fn named(name: &str) -> Option<&'static Routine> {
+    all().find(|routine| routine.name() == name)
+}
+
+/// The routine that a line asks for, and its arguments; nothing if it is a bad request.
+pub fn read(line: &str) -> Option<(&'static Routine, Args)> {
+    let line = CString::new(line).ok()?.into_raw();
+    unsafe {
+        let mut request: c::Request = std::mem::zeroed();
+        let good = c::read_request(line, &mut request);
+        drop(CString::from_raw(line));
+        let args = good.then(|| Args {
+            floats: slice::from_raw_parts(request.floats, request.float_count).to_vec(),
+            wholes: request.wholes.to_vec(),
+        });
+        c::free(request.floats.cast());
+        Some((request.routine.as_ref()?, args?))
+    }
+}
+
+impl Routine {
+    pub fn name(&self) -> &'static str {
+        text(self.name)
+    }
+
+    /// A letter for each argument.
+    pub fn takes(&self) -> &'static str {
+        text(self.takes)
+    }
+
+    /// A letter for each number of an answer.
+    fn gives(&self) -> &'static [u8] {
+        unsafe { CStr::from_ptr(self.gives) }.to_bytes()
+    }
+
+    /// The library's answer.
+    pub fn ask(&self, args: &Args) -> Answer {
+        let (floats, wholes) = (&args.floats, &args.wholes);
+        let reply = unsafe { c::ask(self, floats.as_ptr(), floats.len(), wholes.as_ptr()) };
+        let mut answer = Answer::refused(reply.status);
+        answer.damaged = reply.damaged;
+        if !reply.damaged && reply.status == 0 {
+            for (letter, value) in self.gives().iter().zip(&reply.values) {
+                match letter {
+                    b'f' => answer.push_float(unsafe { value.float }),
+                    _ => answer.push(unsafe { value.whole }),
+                }
+            }
+            if !reply.list.is_null() {
+                let count = unsafe { reply.values[0].whole } as usize;
+                answer.list = unsafe { slice::from_raw_parts(reply.list, count) }.to_vec();
+            }
+        }
+        unsafe { c::free(reply.list.cast()) };
+        answer
+    }
+
+    /// A request as a line.
+    pub fn request(&self, args: &Args) -> String {
+        let (floats, wholes) = (&args.floats, &args.wholes);
+        owned(unsafe { c::request_text(self, floats.as_ptr(), floats.len(), wholes.as_ptr()) })
+    }
+
+    /// An answer of this routine as a line.
+    pub fn show(&self, answer: &Answer) -> String {
+        let (status, damaged) = (answer.status, answer.damaged);
+        let values = answer.values().map(|whole| c::Value { whole });
+        let reply = c::Reply { status, values, list: answer.list.as_ptr().cast_mut(), damaged };
+        owned(unsafe { c::reply_text(self, ptr::from_ref(&reply), false) })
+    }
+}
+
+fn text(start: *const c_char) -> &'static str {
+    unsafe { CStr::from_ptr(start) }.to_str().unwrap()
+}
+
+/// A text that was handed over to be freed.
+fn owned(start: *mut c_char) -> String {
+    let text = text(start).to_string();
+    unsafe { c::free(start.cast()) };
+    text
+}
