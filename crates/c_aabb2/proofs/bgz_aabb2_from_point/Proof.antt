@@ -1,0 +1,16 @@
+-- `c_aabb2::bgz_aabb2_from_point` meets its contract, by what its calls ensure. Assumes nothing.
+use borrow.Author.Needs.{needs}
+use Rattle.c_aabb2.proofs.bgz_aabb2_from_point.Statement.{statement}
+use Rattle.c_aabb2.proofs.bgz_aabb2_from_point.Tie as tie
+
+from-point-requires : tie.Need-from-point-requires
+from-point-requires c κs = search needs
+
+boxed-requires : tie.Need-boxed-requires
+boxed-requires c κs = search needs
+
+returns : tie.Need-returns
+returns c = rw (c .boxed .ensures, c .before .from-point .ensures)
+
+pub bgz-aabb2-from-point-spec : {M : Type 1} → statement M
+bgz-aabb2-from-point-spec = tie.close (tie.spec from-point-requires boxed-requires returns)

@@ -1,0 +1,76 @@
+-- Answers as C sees them: status 0 with the answer, 255 where there is none, and a refusal's number; the rest is zero. Definitions only.
+use Prim.Native.Nat.{ℕ}
+use lib.Ieee.{Float}
+use Rattle.types.specs.declared.shape.Vec2.{Vec2}
+use Rattle.types.specs.declared.shape.Aabb2.{Aabb2}
+use Rattle.types.specs.declared.answer.Extent.{Extent}
+use Rattle.types.specs.declared.answer.Extent.the-variants as extent
+use Rattle.types.specs.declared.answer.Length.{Length}
+use Rattle.types.specs.declared.answer.Length.the-variants as length
+use Rattle.types.specs.declared.answer.Image.{Image}
+use Rattle.types.specs.declared.answer.Image.the-variants as image
+use Rattle.types.specs.declared.answer.Nearest.{Nearest}
+use Rattle.types.specs.declared.answer.Nearest.the-variants as nearest
+use Rattle.types.specs.declared.answer.Boxed.{Boxed}
+use Rattle.types.specs.declared.answer.Boxed.the-variants as boxed
+use Rattle.types.specs.declared.answer.Interval.{Interval}
+use Rattle.types.specs.declared.answer.Interval.the-variants as interval
+use Rattle.types.specs.declared.answer.Pixels.{Pixels}
+use Rattle.types.specs.declared.answer.Pixels.the-variants as pixels
+use Rattle.types.specs.declared.answer.Listed.{Listed}
+use Rattle.types.specs.declared.answer.Listed.the-variants as listed
+use Rattle.c_answers.specs.declared.FloatAnswer.{FloatAnswer}
+use Rattle.c_answers.specs.declared.PointAnswer.{PointAnswer}
+use Rattle.c_answers.specs.declared.BoxAnswer.{BoxAnswer}
+use Rattle.c_answers.specs.declared.IntervalAnswer.{IntervalAnswer}
+use Rattle.c_answers.specs.declared.PixelsAnswer.{PixelsAnswer}
+use Rattle.c_answers.specs.declared.CountAnswer.{CountAnswer}
+use Rattle.float.specs.Rounded.{+0}
+
+abbrev pub none : ℕ
+none = 255
+
+abbrev pub float : ℕ → Float → FloatAnswer
+float n x = record { status = n; value = x }
+
+abbrev pub point : ℕ → Vec2 → PointAnswer
+point n p = record { status = n; value = p }
+
+abbrev pub noPoint : Vec2
+noPoint = record { x = +0; y = +0 }
+
+abbrev pub noBox : Aabb2
+noBox = record { «min_x» = +0; «min_y» = +0; «max_x» = +0; «max_y» = +0 }
+
+unfoldable pub ofExtent : Extent → FloatAnswer
+ofExtent extent.None = float none +0
+ofExtent (extent.Some x) = float 0 x
+ofExtent (extent.Refused n) = float n +0
+
+unfoldable pub ofLength : Length → FloatAnswer
+ofLength (length.Some x) = float 0 x
+ofLength (length.Refused n) = float n +0
+
+unfoldable pub ofImage : Image → PointAnswer
+ofImage image.None = point none noPoint
+ofImage (image.Some p) = point 0 p
+
+unfoldable pub ofNearest : Nearest → PointAnswer
+ofNearest (nearest.Some p) = point 0 p
+ofNearest (nearest.Refused n) = point n noPoint
+
+unfoldable pub ofBoxed : Boxed → BoxAnswer
+ofBoxed (boxed.Some b) = record { status = 0; value = b }
+ofBoxed (boxed.Refused n) = record { status = n; value = noBox }
+
+unfoldable pub ofInterval : Interval → IntervalAnswer
+ofInterval interval.Miss = record { status = none; tmin = +0; tmax = +0 }
+ofInterval (interval.Hit a b) = record { status = 0; tmin = a; tmax = b }
+
+unfoldable pub ofPixels : Pixels → PixelsAnswer
+ofPixels (pixels.Some x0 y0 x1 y1) = record { status = 0; x0 = x0; y0 = y0; x1 = x1; y1 = y1 }
+ofPixels (pixels.Refused n) = record { status = n; x0 = 0; y0 = 0; x1 = 0; y1 = 0 }
+
+unfoldable pub ofListed : Listed → CountAnswer
+ofListed (listed.Count n) = record { status = 0; count = n }
+ofListed (listed.Refused n) = record { status = n; count = 0 }

@@ -1,0 +1,164 @@
+// Answers as C sees them. The status is 0 where there is an answer, 255 where there is none, and a refusal's number otherwise;
+// what is not answered is zero.
+use types::Aabb2;
+use types::Boxed;
+use types::Extent;
+use types::Image;
+use types::Interval;
+use types::Length;
+use types::Listed;
+use types::Nearest;
+use types::Pixels;
+use types::Vec2;
+ghost use mathlib.Core.Path.{_≡_};
+ghost use Rattle.c_answers.specs.Answers.{ofExtent, ofLength, ofImage, ofNearest, ofBoxed, ofInterval, ofPixels, ofListed};
+
+#[repr(C)]
+pub struct FloatAnswer {
+    pub status: u32,
+    pub value: f32,
+}
+
+#[repr(C)]
+pub struct PointAnswer {
+    pub status: u32,
+    pub value: Vec2,
+}
+
+#[repr(C)]
+pub struct BoxAnswer {
+    pub status: u32,
+    pub value: Aabb2,
+}
+
+#[repr(C)]
+pub struct IntervalAnswer {
+    pub status: u32,
+    pub tmin: f32,
+    pub tmax: f32,
+}
+
+#[repr(C)]
+pub struct PixelsAnswer {
+    pub status: u32,
+    pub x0: usize,
+    pub y0: usize,
+    pub x1: usize,
+    pub y1: usize,
+}
+
+#[repr(C)]
+pub struct CountAnswer {
+    pub status: u32,
+    pub count: usize,
+}
+
+pub fn extent(a: Extent) -> FloatAnswer
+    ensures { λ r. ⌜ r ≡ ofExtent a ⌝ }
+{
+    match a {
+        Extent::None => FloatAnswer {
+            status: 255,
+            value: 0.0,
+        },
+        Extent::Some(value) => FloatAnswer { status: 0, value },
+        Extent::Refused(status) => FloatAnswer { status, value: 0.0 },
+    }
+}
+
+pub fn length(a: Length) -> FloatAnswer
+    ensures { λ r. ⌜ r ≡ ofLength a ⌝ }
+{
+    match a {
+        Length::Some(value) => FloatAnswer { status: 0, value },
+        Length::Refused(status) => FloatAnswer { status, value: 0.0 },
+    }
+}
+
+pub fn image(a: Image) -> PointAnswer
+    ensures { λ r. ⌜ r ≡ ofImage a ⌝ }
+{
+    match a {
+        Image::None => PointAnswer {
+            status: 255,
+            value: Vec2 { x: 0.0, y: 0.0 },
+        },
+        Image::Some(value) => PointAnswer { status: 0, value },
+    }
+}
+
+pub fn nearest(a: Nearest) -> PointAnswer
+    ensures { λ r. ⌜ r ≡ ofNearest a ⌝ }
+{
+    match a {
+        Nearest::Some(value) => PointAnswer { status: 0, value },
+        Nearest::Refused(status) => PointAnswer {
+            status,
+            value: Vec2 { x: 0.0, y: 0.0 },
+        },
+    }
+}
+
+pub fn boxed(a: Boxed) -> BoxAnswer
+    ensures { λ r. ⌜ r ≡ ofBoxed a ⌝ }
+{
+    match a {
+        Boxed::Some(value) => BoxAnswer { status: 0, value },
+        Boxed::Refused(status) => BoxAnswer {
+            status,
+            value: Aabb2 {
+                min_x: 0.0,
+                min_y: 0.0,
+                max_x: 0.0,
+                max_y: 0.0,
+            },
+        },
+    }
+}
+
+pub fn interval(a: Interval) -> IntervalAnswer
+    ensures { λ r. ⌜ r ≡ ofInterval a ⌝ }
+{
+    match a {
+        Interval::Miss => IntervalAnswer {
+            status: 255,
+            tmin: 0.0,
+            tmax: 0.0,
+        },
+        Interval::Hit(tmin, tmax) => IntervalAnswer {
+            status: 0,
+            tmin,
+            tmax,
+        },
+    }
+}
+
+pub fn pixels(a: Pixels) -> PixelsAnswer
+    ensures { λ r. ⌜ r ≡ ofPixels a ⌝ }
+{
+    match a {
+        Pixels::Some { x0, y0, x1, y1 } => PixelsAnswer {
+            status: 0,
+            x0,
+            y0,
+            x1,
+            y1,
+        },
+        Pixels::Refused(status) => PixelsAnswer {
+            status,
+            x0: 0,
+            y0: 0,
+            x1: 0,
+            y1: 0,
+        },
+    }
+}
+
+pub fn listed(a: Listed) -> CountAnswer
+    ensures { λ r. ⌜ r ≡ ofListed a ⌝ }
+{
+    match a {
+        Listed::Count(count) => CountAnswer { status: 0, count },
+        Listed::Refused(status) => CountAnswer { status, count: 0 },
+    }
+}

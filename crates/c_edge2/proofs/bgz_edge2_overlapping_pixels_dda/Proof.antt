@@ -1,0 +1,24 @@
+-- `c_edge2::bgz_edge2_overlapping_pixels_dda` meets its contract, by what its calls ensure. Assumes nothing.
+use mathlib.Core.Path.{ap, _∙_}
+use borrow.Author.Needs.{needs}
+use Rattle.c_answers.specs.Answers.{ofListed}
+use Rattle.c_edge2.proofs.bgz_edge2_overlapping_pixels_dda.Statement.{statement}
+use Rattle.c_edge2.proofs.bgz_edge2_overlapping_pixels_dda.Tie as tie
+
+overlapping-pixels-dda-requires : tie.Need-overlapping-pixels-dda-requires
+overlapping-pixels-dda-requires c κs = search needs
+
+listed-requires : tie.Need-listed-requires
+listed-requires c κs = search needs
+
+same-length : tie.Need-same-length
+same-length c = search needs
+
+returns : tie.Need-returns
+returns c =
+    let told = c .before .before .before .overlapping-pixels-dda .ensures in
+    (c .listed .ensures ∙ ap ofListed (told .0), rw (told .0) at (told .1))
+
+pub bgz-edge2-overlapping-pixels-dda-spec : {M : Type 1} → statement M
+bgz-edge2-overlapping-pixels-dda-spec =
+    tie.close (tie.spec overlapping-pixels-dda-requires listed-requires same-length returns)

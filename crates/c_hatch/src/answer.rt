@@ -1,0 +1,28 @@
+// What a read of a hatch list answers, as C sees it: the version and the number of records, or a refusal's number and zeros.
+use hatch::Read;
+ghost use mathlib.Core.Path.{_≡_};
+ghost use Rattle.c_hatch.specs.Answer.{ofRead};
+
+#[repr(C)]
+pub struct ReadAnswer {
+    pub status: u32,
+    pub version: usize,
+    pub count: usize,
+}
+
+pub fn read(a: Read) -> ReadAnswer
+    ensures { λ r. ⌜ r ≡ ofRead a ⌝ }
+{
+    match a {
+        Read::Records { version, count } => ReadAnswer {
+            status: 0,
+            version,
+            count,
+        },
+        Read::Refused(status) => ReadAnswer {
+            status,
+            version: 0,
+            count: 0,
+        },
+    }
+}
