@@ -1,3 +1,2 @@
 pub mod Clip
 pub mod Inside
-pub mod Laws

@@ -71,8 +71,8 @@ transformHomogeneousOf b m = boxed (imagesOf m (cornersOf b))
 -- ---- moved and scaled
 
 -- a = 1 / size on the diagonal, and the translation that takes the centre to one half
-abbrev pub world2unitOf : Aabb2 → Mat3
-world2unitOf b =
+abbrev pub toTransformationWorld2unitOrthoPreserveAspOf : Aabb2 → Mat3
+toTransformationWorld2unitOrthoPreserveAspOf b =
     let a = one ⊘ maxEdgeSizeOf b in
     let c = centerOf b in
     record {

@@ -8,7 +8,7 @@ ghost use mathlib.Core.Path.{_≡_};
 ghost use mathlib.Core.List.{[], _∷_};
 ghost use Rattle.float.specs.Folds.{leastOf, greatestOf};
 ghost use Rattle.aabb.specs.Inside.{centerOf};
-ghost use Rattle.aabb2_change.specs.Change.{maxEdgeSizeOf, transformHomogeneousOf, world2unitOf, scaleOf, translateOf, hullOf};
+ghost use Rattle.aabb2_change.specs.Change.{maxEdgeSizeOf, transformHomogeneousOf, toTransformationWorld2unitOrthoPreserveAspOf, scaleOf, translateOf, hullOf};
 
 pub fn center(b: Aabb2) -> Vec2
     ensures { λ r. ⌜ r ≡ centerOf b ⌝ }
@@ -92,7 +92,7 @@ pub fn transform_homogeneous(b: Aabb2, m: Mat3) -> Boxed
 
 // The transform that takes the box into the unit square, both axes scaled alike, the centre to the square's.
 pub fn to_transformation_world2unit_ortho_preserve_asp(b: Aabb2) -> Mat3
-    ensures { λ r. ⌜ r ≡ world2unitOf b ⌝ }
+    ensures { λ r. ⌜ r ≡ toTransformationWorld2unitOrthoPreserveAspOf b ⌝ }
 {
     let c = center(b);
     let a = 1.0 / max_edge_size(b);

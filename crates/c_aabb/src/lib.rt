@@ -4,7 +4,7 @@ use types::Aabb2;
 use types::Vec2;
 ghost use mathlib.Core.Path.{_≡_};
 ghost use Rattle.c_answers.specs.Answers.{ofInterval};
-ghost use Rattle.aabb.specs.Clip.{clipOf, rayOf};
+ghost use Rattle.aabb.specs.Clip.{intersectionsAgainstLineOf, intersectionsAgainstRayOf};
 ghost use Rattle.aabb.specs.Inside.{isIncludePointOf, centerOf};
 
 #[no_mangle]
@@ -13,7 +13,7 @@ pub extern "C" fn bgz_aabb_intersections_against_line(
     origin: Vec2,
     direction: Vec2,
 ) -> IntervalAnswer
-    ensures { λ r. ⌜ r ≡ ofInterval (clipOf b origin direction) ⌝ }
+    ensures { λ r. ⌜ r ≡ ofInterval (intersectionsAgainstLineOf b origin direction) ⌝ }
 {
     c_answers::interval(aabb::intersections_against_line(b, origin, direction))
 }
@@ -24,7 +24,7 @@ pub extern "C" fn bgz_aabb_intersections_against_ray(
     origin: Vec2,
     direction: Vec2,
 ) -> IntervalAnswer
-    ensures { λ r. ⌜ r ≡ ofInterval (rayOf (clipOf b origin direction)) ⌝ }
+    ensures { λ r. ⌜ r ≡ ofInterval (intersectionsAgainstRayOf b origin direction) ⌝ }
 {
     c_answers::interval(aabb::intersections_against_ray(b, origin, direction))
 }

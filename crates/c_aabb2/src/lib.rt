@@ -15,7 +15,7 @@ ghost use Rattle.tiles.specs.Promise.{Promise};
 ghost use Rattle.aabb2_view.specs.Flat.{countOf, fromAabbsOf};
 ghost use Rattle.aabb2.specs.From.{fromPointOf, fromTwoPointsOf, fromTwoAabbsOf, addPointOf};
 ghost use Rattle.aabb2.specs.Raster.{rasterizeOf};
-ghost use Rattle.aabb2.specs.Change.{maxEdgeSizeOf, transformHomogeneousOf, world2unitOf, scaleOf, translateOf};
+ghost use Rattle.aabb2.specs.Change.{maxEdgeSizeOf, transformHomogeneousOf, toTransformationWorld2unitOrthoPreserveAspOf, scaleOf, translateOf};
 ghost use Rattle.aabb2.specs.Distance.{isIntersectSquareOf, nearestPoint2Of, sdfOf};
 
 #[no_mangle]
@@ -84,7 +84,7 @@ pub extern "C" fn bgz_aabb2_transform_homogeneous(b: Aabb2, m: Mat3) -> BoxAnswe
 
 #[no_mangle]
 pub extern "C" fn bgz_aabb2_to_transformation_world2unit_ortho_preserve_asp(b: Aabb2) -> Mat3
-    ensures { λ r. ⌜ r ≡ world2unitOf b ⌝ }
+    ensures { λ r. ⌜ r ≡ toTransformationWorld2unitOrthoPreserveAspOf b ⌝ }
 {
     aabb2::to_transformation_world2unit_ortho_preserve_asp(b)
 }

@@ -3,7 +3,7 @@ use mathlib.Core.Path.{_≡_, refl}
 use lib.Ieee.{round, ofInt, ofBits, neg, add, sub, mul, div, lt, le, ne, eq, isNan, toUnsigned}
 use Rattle.float.specs.Values.{absOf, minOf, maxOf}
 use Rattle.rounding.specs.Values.{wholeOf, ceilOf}
-use Rattle.aabb.specs.Clip.{narrow, narrowAll, ordered, clipOver, clipOf, rayOf}
+use Rattle.aabb.specs.Clip.{narrowedOf, narrowAll, orderedOf, clipOver, aheadOf, intersectionsAgainstLineOf, intersectionsAgainstRayOf}
 use Rattle.range.specs.Values.{intersectionLengthOf}
 use Rattle.aabb2_raster.specs.Raster.{rasterizeOf}
 use Rattle.tiles.specs.Tiles.{tilesOf}
@@ -15,7 +15,8 @@ use Rattle.figures.specs.Claim.{FiguresHold}
 
 pub hold : FiguresHold
 unfolding round ofInt ofBits neg add sub mul div lt le ne eq isNan toUnsigned absOf minOf maxOf wholeOf ceilOf
-    narrow narrowAll ordered clipOver clipOf rayOf intersectionLengthOf rasterizeOf tilesOf overlappingTilesOf
+    narrowedOf narrowAll orderedOf clipOver aheadOf intersectionsAgainstLineOf intersectionsAgainstRayOf intersectionLengthOf rasterizeOf
+    tilesOf overlappingTilesOf
     stepOf axisOf at within inRanges leaves exit upto positions onSide inSides number kept each pixels entries strokeOf
     sidesTooLarge withinLimit pointFits endsFit sameEnds fitted overlappingPixelsDdaOf
 hold = (

@@ -14,7 +14,7 @@ use Rattle.types.specs.declared.answer.Extent.{Extent}
 use Rattle.types.specs.declared.answer.Pixels.{Pixels}
 use Rattle.types.specs.declared.answer.Listed.the-variants.{Count, Refused}
 use Rattle.range.specs.Values.{intersectionLengthOf}
-use Rattle.aabb.specs.Clip.{clipOf, rayOf}
+use Rattle.aabb.specs.Clip.{intersectionsAgainstLineOf, intersectionsAgainstRayOf}
 use Rattle.aabb2_raster.specs.Raster.{rasterizeOf}
 use Rattle.tiles.specs.Sheet.{Sheet}
 use Rattle.tiles.specs.Tiles.{tilesOf}
@@ -48,10 +48,10 @@ box a b c d = record { «min_x» = a; «min_y» = b; «max_x» = c; «max_y» = 
 
 -- a line or a ray by its point and its direction
 abbrev pub line : Aabb2 → Vec2 → Vec2 → Interval → Type 0
-line b point direction answer = clipOf b point direction ≡ answer
+line b point direction answer = intersectionsAgainstLineOf b point direction ≡ answer
 
 abbrev pub ray : Aabb2 → Vec2 → Vec2 → Interval → Type 0
-ray b point direction answer = rayOf (clipOf b point direction) ≡ answer
+ray b point direction answer = intersectionsAgainstRayOf b point direction ≡ answer
 
 abbrev pub overlap : Range → Range → Extent → Type 0
 overlap a b answer = intersectionLengthOf a b ≡ answer

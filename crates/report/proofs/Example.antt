@@ -4,7 +4,7 @@ use mathlib.Core.List.{List, [], _∷_, _++_, map}
 use Prim.Native.Nat.{ℕ, _/_, _%_}
 use lib.Ieee.{ofBits, toBits, sub, div, neg, lt, le, eq, ne, isNan}
 use Rattle.float.specs.Values.{minOf, maxOf}
-use Rattle.aabb.specs.Clip.{narrow, narrowAll, ordered, clipOver, clipOf}
+use Rattle.aabb.specs.Clip.{narrowedOf, narrowAll, orderedOf, clipOver, intersectionsAgainstLineOf}
 use Rattle.hatch.specs.Bytes.{startsWith, upto}
 use Rattle.hatch.specs.Format.{layoutOf, sizedOf, versionedOf, headOf}
 use Rattle.hatch.specs.Decode.{bodyOf, decode}
@@ -54,5 +54,5 @@ figures =
     ∷ []
 
 figures-right : map (λ (f : Figure). reportOf (f .bytes)) figures ≡ map (λ (f : Figure). f .printed) figures
-unfolding figures ofBits toBits sub div neg lt le eq ne isNan minOf maxOf narrow narrowAll ordered clipOver clipOf startsWith upto layoutOf sizedOf versionedOf headOf bodyOf decode decimalBy decimal hex8 shown lineOf clipAt linesOf openingOf refusalOf textOf reportOf
+unfolding figures ofBits toBits sub div neg lt le eq ne isNan minOf maxOf narrowedOf narrowAll orderedOf clipOver intersectionsAgainstLineOf startsWith upto layoutOf sizedOf versionedOf headOf bodyOf decode decimalBy decimal hex8 shown lineOf clipAt linesOf openingOf refusalOf textOf reportOf
 figures-right = refl

@@ -10,7 +10,7 @@ use Rattle.types.specs.declared.shape.Aabb2.{Aabb2}
 use Rattle.types.specs.declared.answer.Interval.{Interval}
 use Rattle.types.specs.declared.answer.Interval.the-variants.{Miss, Hit}
 use Rattle.float.specs.Rounded.{+0}
-use Rattle.aabb.specs.Clip.{clipOf}
+use Rattle.aabb.specs.Clip.{intersectionsAgainstLineOf}
 use Rattle.hatch.specs.Format.{hsl, rows}
 use Rattle.hatch.specs.Decode.{Answer, refused, accepted, decode, decodeInto, floatOf}
 use Rattle.text.specs.Ascii.{ascii}
@@ -28,7 +28,7 @@ pointAt fs at = record { x = getD fs at nan; y = getD fs (at + 1) nan }
 
 -- record k of a list of floats, eight each, clipped as a line
 unfoldable pub clipAt : List Float → ℕ → Interval
-clipAt fs k = clipOf (boxAt fs (8 * k)) (pointAt fs (8 * k + 4)) (pointAt fs (8 * k + 6))
+clipAt fs k = intersectionsAgainstLineOf (boxAt fs (8 * k)) (pointAt fs (8 * k + 4)) (pointAt fs (8 * k + 6))
 
 -- the bits that are printed: any zero as 0
 unfoldable pub shown : Float → ℕ
