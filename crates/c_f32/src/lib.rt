@@ -3,7 +3,9 @@ ghost use mathlib.Core.Path.{_≡_};
 ghost use lib.Ieee.{toSigned, toUnsigned};
 ghost use Rattle.float.specs.Values.{absOf, minOf, maxOf, clampOf};
 ghost use Rattle.rounding.specs.Values.{floorOf, ceilOf};
-ghost use Rattle.root.specs.Root.{sqrtOf};
+ghost use Rattle.rounding.specs.Integral.{TowardNegative, TowardPositive};
+ghost use Rattle.rounding.specs.Promise.{RoundsToIntegral};
+ghost use Rattle.root.specs.Promise.{SquareRoot};
 
 #[no_mangle]
 pub extern "C" fn bgz_f32_abs(x: f32) -> f32
@@ -35,14 +37,14 @@ pub extern "C" fn bgz_f32_clamp(x: f32, low: f32, high: f32) -> f32
 
 #[no_mangle]
 pub extern "C" fn bgz_f32_floor(x: f32) -> f32
-    ensures { λ r. ⌜ r ≡ floorOf x ⌝ }
+    ensures { λ r. ⌜ RoundsToIntegral TowardNegative floorOf x r ⌝ }
 {
     rounding::floor(x)
 }
 
 #[no_mangle]
 pub extern "C" fn bgz_f32_ceil(x: f32) -> f32
-    ensures { λ r. ⌜ r ≡ ceilOf x ⌝ }
+    ensures { λ r. ⌜ RoundsToIntegral TowardPositive ceilOf x r ⌝ }
 {
     rounding::ceil(x)
 }
@@ -70,7 +72,7 @@ pub extern "C" fn bgz_f32_to_usize(x: f32) -> usize
 
 #[no_mangle]
 pub extern "C" fn bgz_f32_sqrt(x: f32) -> f32
-    ensures { λ r. ⌜ r ≡ sqrtOf x ⌝ }
+    ensures { λ r. ⌜ SquareRoot x r ⌝ }
 {
     root::sqrt(x)
 }

@@ -56,7 +56,7 @@ pub fn clamp(x: f32, low: f32, high: f32) -> f32
     }
 }
 
-// The minimum by one test, right where a is a number. specs/Laws.antt says when it may stand for `min`.
+// The minimum by one test, right where a is a number. proofs/Laws.antt says when it may stand for `min`.
 pub fn lesser(a: f32, b: f32) -> f32
     ensures { λ r. ⌜ r ≡ lesserOf a b ⌝ }
 {

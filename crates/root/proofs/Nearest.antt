@@ -1,5 +1,5 @@
--- The theorems on the root of a positive f32 x: `sqrtOf x` is the f32 nearest to √x, and no other is. Assumes nothing.
-use mathlib.Core.Path.{_≡_}
+-- The theorems behind the contract of `sqrt`: above zero `sqrtOf x` is the f32 nearest to √x, and no other is. Assumes nothing.
+use mathlib.Core.Path.{_≡_, subst, sym, ap, _∙_}
 use Prim.Native.Nat.{ℕ}
 use lib.Dec.{T}
 use lib.Ieee.{Float, binary32, fits}
@@ -9,10 +9,12 @@ use Rattle.float.specs.Units.{inUnits}
 use Rattle.root.specs.Radicand.{radicand}
 use Rattle.root.specs.Root.{nearestRoot, sqrtOf}
 use Rattle.root.specs.Nearest.{Nearer, IsNearest}
+use Rattle.root.specs.Promise.{SquareRoot}
 use Rattle.root.proofs.Closest.{nearest-one}
 use Rattle.root.proofs.Units.{positive-unique, positive-root}
 use Rattle.root.proofs.Grid.{representable}
 use Rattle.root.proofs.Radicand.{radicand-low, radicand-high, radicand-representable}
+use Rattle.root.proofs.Special.{sqrt-of-nan, sqrt-of-infinity, sqrt-of-zero, sqrt-below-zero}
 use Rattle.root.proofs.Result.{result-units, result-nearer, result-positive, result-fits}
 
 pub sqrt-is-nearest : (x : Float) → T (fits binary32 x) → T (positive x) → IsNearest x (sqrtOf x)
@@ -35,3 +37,18 @@ nearest-is-one x r s a b =
     let sr = b .nearer r (a .held) (positive-finite r (a .positive)) in
     let units = nearest-one rs sr in
     positive-unique r s (a .held) (b .held) (a .positive) (b .positive) units
+
+-- the contract, for whatever is `sqrtOf x`
+pub square-root : (x r : Float) → T (fits binary32 x) → r ≡ sqrtOf x → SquareRoot x r
+square-root x r f is = record {
+  value = is;
+  nearest = nearest;
+  only = λ p q n. nearest-is-one x q r n (nearest p);
+  zero = λ s e. is ∙ ap sqrtOf e ∙ sqrt-of-zero s;
+  infinite = λ e. is ∙ ap sqrtOf e ∙ sqrt-of-infinity;
+  negative = λ h. is ∙ sqrt-below-zero x h;
+  not-a-number = λ e. is ∙ ap sqrtOf e ∙ sqrt-of-nan;
+}
+  where
+    nearest : T (positive x) → IsNearest x r
+    nearest p = rw is (sqrt-is-nearest x f p)

@@ -1,20 +1,21 @@
 -- `floorOf` and `ceilOf` are IEEE 754's roundToIntegralTowardNegative and TowardPositive, and nothing else is. Assumes nothing.
 use mathlib.Core.Path.{_≡_, refl, sym, ap, _∙_, subst}
-use mathlib.Core.Bool.{Bool, true, false}
+use mathlib.Core.Bool.{Bool, true, false, not}
 use Prim.Native.Nat.{ℕ, zero, suc, _*_, _<_, _≤_}
-use native.Mathlib.Nat.{mul-pos, zero-mul}
+use native.Mathlib.Nat.{mul-one, mul-pos, zero-mul}
 use native.Mathlib.Omega.{arith}
 use lib.IntN.{ℤ, pos, negsuc, negℤ, _*ℤ_}
 use lib.Signed.{leZ}
 use lib.Dec.{T, le→leb, leb→le}
 use lib.Ieee.{Float, nan, inf, fin, binary32, up, down, fits}
-use lib.Ieee.Fits.{down-pos}
+use lib.Ieee.Fits.{down-pos, nan-fits, inf-fits, round-fits}
 use lib.Ieee.Exact.{HasValue}
 use lib.Ieee.Back.{whole-unique}
 use lib.Ieee.Scale.{finite}
-use Rattle.rounding.specs.Values.{sizeDown, sizeUp, floorOf, ceilOf}
+use Rattle.rounding.specs.Values.{sizeDown, sizeUp, wholeOf, floorOf, ceilOf}
 use Rattle.float.specs.Units.{signed}
-use Rattle.rounding.specs.Integral.{sign, atMost, atLeast, TowardNegative, TowardPositive}
+use Rattle.rounding.specs.Integral.{sign, Equal, atMost, atLeast, TowardNegative, TowardPositive}
+use Rattle.rounding.specs.Promise.{RoundsToIntegral}
 use Rattle.rounding.proofs.Ends.{down-greatest, up-least, down-exact, up-exact}
 
 -- ---- the order of negated numbers
@@ -47,6 +48,44 @@ scaled (suc n) d = refl
 no-less : (j d : ℕ) → 0 < d → suc j * d ≡ 0 → ⊥
 no-less j d p h = omega (arith, mul-pos {m = suc j} {n = d} (omega arith) p)
 
+-- ---- a float whose value is a whole number, by its sign and size
+
+abbrev size : ℤ → ℕ
+size (pos n) = n
+size (negsuc n) = suc n
+
+size-neg : (n : ℕ) → size (negℤ (pos n)) ≡ n
+size-neg zero = refl
+size-neg (suc n) = refl
+
+size-signed : (s : Bool) (n : ℕ) → size (signed s n) ≡ n
+size-signed false n = refl
+size-signed true n = size-neg n
+
+size-times : (k : ℤ) (d : ℕ) → size (k *ℤ pos d) ≡ size k * d
+size-times (pos n) d = refl
+size-times (negsuc n) d = size-neg (suc n * d)
+
+whole : (s : Bool) (n : ℕ) (r : Float) → HasValue r s n 1 → Equal (signed s n) r × (sign r ≡ s)
+whole s n nan v = absurd v
+whole s n (inf t) v = absurd v
+whole s n (fin t m e) v = (equal s t (v .0), v .0)
+  where
+    sizes : n * down e ≡ m * up e
+    sizes = sym (v .1) ∙ mul-one (m * up e)
+
+    equal : (s t : Bool) → t ≡ s → signed s n *ℤ pos (down e) ≡ signed t (m * up e)
+    equal false false h = ap pos sizes
+    equal true true h = scaled n (down e) ∙ ap (λ (k : ℕ). negℤ (pos k)) sizes
+    equal true false h = absurd (subst T (sym h) tt)
+    equal false true h = absurd (subst T h tt)
+
+value-of : (k : ℤ) (r : Float) → Equal k r → HasValue r (sign r) (size k) 1
+value-of k nan v = absurd v
+value-of k (inf t) v = absurd v
+value-of k (fin t m e) v =
+    (refl, mul-one (m * up e) ∙ sym (size-signed t (m * up e)) ∙ ap size (sym v) ∙ size-times k (down e))
+
 -- ---- toward the negative
 
 down-plus : (m : ℕ) (e : ℤ) (k : ℤ) → T (atMost k (fin false m e)) → T (leZ k (pos (sizeDown m e)))
@@ -70,13 +109,22 @@ unfolding floorOf
 floor-is nan f h = absurd h
 floor-is (inf s) f h = absurd h
 floor-is (fin false m e) f h =
-    record { n = sizeDown m e; exact = down-exact false m e f; not-above = le→leb _ (m * up e) (down-greatest m e .not-above); closest = down-plus m e }
-floor-is (fin true m e) f h =
+    let is = whole false (sizeDown m e) (floorOf (fin false m e)) (down-exact false m e f) in
     record {
-      n = sizeUp m e;
-      exact = up-exact true m e f;
-      not-above = subst (λ (z : ℤ). T (leZ z (negℤ (pos (m * up e))))) (sym (scaled (sizeUp m e) (down e))) (neg-le _ _ (up-least m e .not-below));
+      n = pos (sizeDown m e);
+      exact = is .0;
+      not-above = le→leb _ (m * up e) (down-greatest m e .not-above);
+      closest = down-plus m e;
+      sign-of-floor = cc (is .1);
+    }
+floor-is (fin true m e) f h =
+    let is = whole true (sizeUp m e) (floorOf (fin true m e)) (up-exact true m e f) in
+    record {
+      n = negℤ (pos (sizeUp m e));
+      exact = is .0;
+      not-above = rw (scaled (sizeUp m e) (down e)) (neg-le _ _ (up-least m e .not-below));
       closest = down-minus m e;
+      sign-of-floor = cc (is .1);
     }
 
 -- ---- toward the positive
@@ -94,34 +142,89 @@ unfolding ceilOf
 ceil-is nan f h = absurd h
 ceil-is (inf s) f h = absurd h
 ceil-is (fin false m e) f h =
-    record { n = sizeUp m e; exact = up-exact false m e f; not-below = le→leb (m * up e) _ (up-least m e .not-below); closest = up-plus m e }
-ceil-is (fin true m e) f h =
+    let is = whole false (sizeUp m e) (ceilOf (fin false m e)) (up-exact false m e f) in
     record {
-      n = sizeDown m e;
-      exact = down-exact true m e f;
-      not-below = subst (λ (z : ℤ). T (leZ (negℤ (pos (m * up e))) z)) (sym (scaled (sizeDown m e) (down e))) (neg-le _ _ (down-greatest m e .not-above));
+      n = pos (sizeUp m e);
+      exact = is .0;
+      not-below = le→leb (m * up e) _ (up-least m e .not-below);
+      closest = up-plus m e;
+      sign-of-ceiling = cc (is .1);
+    }
+ceil-is (fin true m e) f h =
+    let is = whole true (sizeDown m e) (ceilOf (fin true m e)) (down-exact true m e f) in
+    record {
+      n = negℤ (pos (sizeDown m e));
+      exact = is .0;
+      not-below = rw (scaled (sizeDown m e) (down e)) (neg-le _ _ (down-greatest m e .not-above));
       closest = up-minus m e;
+      sign-of-ceiling = cc (is .1);
     }
 
 -- ---- one result only
 
-same-size : (s : Bool) (a b : ℕ) → T (leZ (signed s a) (signed s b)) → T (leZ (signed s b) (signed s a)) → a ≡ b
-same-size false a b h k = omega (arith, leb→le a b h, leb→le b a k)
-same-size true a b h k = omega (arith, neg-back a b h, neg-back b a k)
+same-whole : (a b : ℤ) → T (leZ a b) → T (leZ b a) → a ≡ b
+same-whole (pos a) (pos b) h k = ap pos (omega (arith, leb→le a b h, leb→le b a k))
+same-whole (pos a) (negsuc b) h k = absurd h
+same-whole (negsuc a) (pos b) h k = absurd k
+same-whole (negsuc a) (negsuc b) h k = ap negsuc (omega (arith, leb→le b a h, leb→le a b k))
 
-one-value : (r q : Float) (s : Bool) (a b : ℕ) → T (fits binary32 r) → T (fits binary32 q) → a ≡ b → HasValue r s a 1 → HasValue q s b 1 → r ≡ q
-one-value r q s a b f g is v w = whole-unique binary32 r q s a f g v (subst (λ (n : ℕ). HasValue q s n 1) (sym is) w)
+one-value : (a b : ℤ) (r q : Float) → T (fits binary32 r) → T (fits binary32 q) → sign r ≡ sign q → a ≡ b → Equal a r → Equal b q → r ≡ q
+one-value a b r q f g signs is v w =
+    whole-unique binary32 r q (sign q) (size b) f g (rw signs at (rw is at (value-of a r v))) (value-of b q w)
 
-pub floor-only : {x r q : Float} → T (fits binary32 r) → T (fits binary32 q) → TowardNegative x r → TowardNegative x q → r ≡ q
-floor-only {x} {r} {q} f g a b =
-    one-value r q (sign x) (a .n) (b .n) f g
-    (same-size (sign x) (a .n) (b .n) (b .closest _ (a .not-above)) (a .closest _ (b .not-above)))
-    (a .exact)
-    (b .exact)
+pub floor-only : (x r q : Float) → T (fits binary32 r) → T (fits binary32 q) → TowardNegative x r → TowardNegative x q → r ≡ q
+floor-only x r q f g a b =
+    let signs : sign r ≡ sign q = cc (a .sign-of-floor, b .sign-of-floor) in
+    let is = same-whole (a .n) (b .n) (b .closest (a .n) (a .not-above)) (a .closest (b .n) (b .not-above)) in
+    one-value (a .n) (b .n) r q f g signs is (a .exact) (b .exact)
 
-pub ceil-only : {x r q : Float} → T (fits binary32 r) → T (fits binary32 q) → TowardPositive x r → TowardPositive x q → r ≡ q
-ceil-only {x} {r} {q} f g a b =
-    one-value r q (sign x) (a .n) (b .n) f g
-    (same-size (sign x) (a .n) (b .n) (a .closest _ (b .not-below)) (b .closest _ (a .not-below)))
-    (a .exact)
-    (b .exact)
+pub ceil-only : (x r q : Float) → T (fits binary32 r) → T (fits binary32 q) → TowardPositive x r → TowardPositive x q → r ≡ q
+ceil-only x r q f g a b =
+    let signs : sign r ≡ sign q = cc (a .sign-of-ceiling, b .sign-of-ceiling) in
+    let is = same-whole (a .n) (b .n) (a .closest (b .n) (b .not-below)) (b .closest (a .n) (a .not-below)) in
+    one-value (a .n) (b .n) r q f g signs is (a .exact) (b .exact)
+
+-- ---- the contracts, for whatever is `floorOf x` or `ceilOf x`
+
+module _ (Toward : Float → Float → Type 0) (valueOf : Float → Float) (x : Float) where
+  rounds-to : T (fits binary32 (valueOf x)) → (T (finite x) → Toward x (valueOf x))
+      → ((r q : Float) → T (fits binary32 r) → T (fits binary32 q) → Toward x r → Toward x q → r ≡ q)
+      → (T (not (finite x)) → valueOf x ≡ x) → (r : Float) → r ≡ valueOf x → RoundsToIntegral Toward valueOf x r
+  rounds-to f rounds only kept r is = rw is record {
+    value = refl;
+    rounds = rounds;
+    only = λ h q g t. only q (valueOf x) g f t (rounds h);
+    kept = kept;
+  }
+
+floor-fits : (x : Float) → T (fits binary32 (floorOf x))
+unfolding floorOf wholeOf
+floor-fits nan = nan-fits binary32
+floor-fits (inf s) = inf-fits binary32 s
+floor-fits (fin false m e) = round-fits binary32 false (sizeDown m e) 1
+floor-fits (fin true m e) = round-fits binary32 true (sizeUp m e) 1
+
+floor-kept : (x : Float) → T (not (finite x)) → floorOf x ≡ x
+unfolding floorOf
+floor-kept nan h = refl
+floor-kept (inf s) h = refl
+floor-kept (fin s m e) h = absurd h
+
+pub floor-rounds : (x r : Float) → T (fits binary32 x) → r ≡ floorOf x → RoundsToIntegral TowardNegative floorOf x r
+floor-rounds x r f = rounds-to TowardNegative floorOf x (floor-fits x) (floor-is x f) (floor-only x) (floor-kept x) r
+
+ceil-fits : (x : Float) → T (fits binary32 (ceilOf x))
+unfolding ceilOf wholeOf
+ceil-fits nan = nan-fits binary32
+ceil-fits (inf s) = inf-fits binary32 s
+ceil-fits (fin false m e) = round-fits binary32 false (sizeUp m e) 1
+ceil-fits (fin true m e) = round-fits binary32 true (sizeDown m e) 1
+
+ceil-kept : (x : Float) → T (not (finite x)) → ceilOf x ≡ x
+unfolding ceilOf
+ceil-kept nan h = refl
+ceil-kept (inf s) h = refl
+ceil-kept (fin s m e) h = absurd h
+
+pub ceil-rounds : (x r : Float) → T (fits binary32 x) → r ≡ ceilOf x → RoundsToIntegral TowardPositive ceilOf x r
+ceil-rounds x r f = rounds-to TowardPositive ceilOf x (ceil-fits x) (ceil-is x f) (ceil-only x) (ceil-kept x) r

@@ -1,2 +1,3 @@
-pub mod Values
 pub mod Integral
+pub mod Promise
+pub mod Values

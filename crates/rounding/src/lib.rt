@@ -5,6 +5,8 @@ ghost use mathlib.Core.Bool.{true, false};
 ghost use lib.IntN.{pos};
 ghost use lib.Ieee.{fin, le, lt, toSigned, toUnsigned};
 ghost use Rattle.rounding.specs.Values.{floorOf, ceilOf};
+ghost use Rattle.rounding.specs.Integral.{TowardNegative, TowardPositive};
+ghost use Rattle.rounding.specs.Promise.{RoundsToIntegral};
 
 // The whole part of a number from 1 up to 2 ^ 24: its 24 digits, less those behind the point.
 // std's cast takes larger numbers too, and goes by f64, which costs more.
@@ -18,7 +20,7 @@ fn whole_part(x: f32) -> u32
 
 // The greatest whole number that is not above x, with x's sign. From 2 ^ 23 up an f32 has no fraction.
 pub fn floor(x: f32) -> f32
-    ensures { λ r. ⌜ r ≡ floorOf x ⌝ }
+    ensures { λ r. ⌜ RoundsToIntegral TowardNegative floorOf x r ⌝ }
 {
     let a = -x;
     if x >= 1.0 {
@@ -46,7 +48,7 @@ pub fn floor(x: f32) -> f32
 
 // The least whole number that is not below x, with x's sign.
 pub fn ceil(x: f32) -> f32
-    ensures { λ r. ⌜ r ≡ ceilOf x ⌝ }
+    ensures { λ r. ⌜ RoundsToIntegral TowardPositive ceilOf x r ⌝ }
 {
     -floor(-x)
 }

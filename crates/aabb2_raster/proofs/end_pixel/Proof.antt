@@ -21,7 +21,7 @@ to-usize-requires : tie.Need-to-usize-requires
 to-usize-requires c κs = search needs
 
 returns : tie.Need-returns
-returns c = rw (c .to-usize .ensures, c .before .min .ensures, c .before .before .before .ceil .ensures)
+returns c = rw (c .to-usize .ensures, c .before .min .ensures, c .before .before .before .ceil .ensures .value)
 
 pub end-pixel-spec : {M : Type 1} → statement M
 end-pixel-spec =

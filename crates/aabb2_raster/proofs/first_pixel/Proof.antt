@@ -13,7 +13,7 @@ to-usize-requires : tie.Need-to-usize-requires
 to-usize-requires c κs = search needs
 
 returns : tie.Need-returns
-returns c = rw (c .to-usize .ensures, c .before .max .ensures, c .before .before .ceil .ensures)
+returns c = rw (c .to-usize .ensures, c .before .max .ensures, c .before .before .ceil .ensures .value)
 
 pub first-pixel-spec : {M : Type 1} → statement M
 first-pixel-spec = tie.close (tie.spec ceil-requires max-requires to-usize-requires returns)

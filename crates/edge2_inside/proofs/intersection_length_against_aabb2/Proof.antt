@@ -72,7 +72,7 @@ returns-5 c =
       c .before .before .before .before .before .known-told2 .given .1,
       c .before .before .dy .given .1,
       c .before .known-told4 .given .1,
-      c .sqrt .ensures,
+      c .sqrt .ensures .value,
     )
 
 pub intersection-length-against-aabb2-spec : {M : Type 1} → statement M

@@ -7,7 +7,7 @@ sqrt-requires : tie.Need-sqrt-requires
 sqrt-requires c κs = search needs
 
 returns : tie.Need-returns
-returns c = rw (c .sqrt .ensures)
+returns c = rw (c .sqrt .ensures .value)
 
 pub unit-edge-vector-spec : {M : Type 1} → statement M
 unit-edge-vector-spec = tie.close (tie.spec sqrt-requires returns)
