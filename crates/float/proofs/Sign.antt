@@ -1,7 +1,7 @@
 -- The absolute value by the tests `x < 0.0` and `x == 0.0`. Assumes nothing.
 use mathlib.Core.Path.{_≡_, refl, sym, ap, subst}
 use mathlib.Core.Bool.{Bool, true, false, Bool·beq, _||_}
-use Prim.Native.Nat.{ℕ, zero, suc, _*_, _+_, _^_, _<_}
+use Prim.Native.Nat.{ℕ, zero, suc, _*_, _+_, _^_}
 use native.Mathlib.Nat.{mul-pos, pow-suc, zero-mul}
 use native.Mathlib.Omega.{arith}
 use lib.IntN.{ℤ, pos, negsuc}
@@ -29,14 +29,10 @@ one-zero (pos zero) h = refl
 one-zero (pos (suc k)) h = absurd (omega (arith, eqb→eq (2 ^ suc k * 1) 1 h, pow-suc 2 k, pow-pos k))
 one-zero (negsuc k) h = absurd (omega (arith, eqb→eq (1 * 2 ^ suc k) 1 h, pow-suc 2 k, pow-pos k))
 
-no-size : (m : ℕ) (e : ℤ) → m * up e ≡ 0 → m ≡ 0
-no-size zero e h = refl
-no-size (suc m) e h = absurd (omega (arith, h, mul-pos {m = suc m} {n = up e} (omega arith) (up-pos e)))
-
-zero-only : (s : Bool) (m : ℕ) (e : ℤ) → m ≡ 0 → T (fits binary32 (fin s m e)) → +0 ≡ fin false m e
+pub no-size : (s : Bool) (m : ℕ) (e : ℤ) → T (fits binary32 (fin s m e)) → m * up e ≡ 0 → (m ≡ 0) × (e ≡ pos 0)
 unfolding fits
-zero-only s zero e h f = ap (fin false 0) (sym (one-zero e f))
-zero-only s (suc m) e h f = absurd (omega (arith, h))
+no-size s zero e f h = (refl, one-zero e f)
+no-size s (suc m) e f h = absurd (omega (arith, mul-pos {m = suc m} {n = up e} (omega arith) (up-pos e)))
 
 pub at-zero : (x : Float) → T (fits binary32 x) → eq x +0 ≡ true → +0 ≡ absOf x
 unfolding absOf eq
@@ -44,7 +40,8 @@ at-zero nan f h = absurd (subst T (sym h) tt)
 at-zero (inf s) f h = absurd (subst T (sym h) tt)
 at-zero (fin s m e) f h =
     let t = and-l (eqb (m * up e * 1) (0 * down e)) (Bool·beq s false || eqb (m * up e * 1) 0) (subst T (sym h) tt) in
-    zero-only s m e (no-size m e (omega (arith, eqb→eq (m * up e * 1) (0 * down e) t))) f
+    let z = no-size s m e f (omega (arith, eqb→eq (m * up e * 1) (0 * down e) t)) in
+    rw (z .0, z .1)
 
 pub above-zero : (x : Float) → lt x +0 ≡ false → eq x +0 ≡ false → x ≡ absOf x
 unfolding absOf lt eq

@@ -1,5 +1,5 @@
 -- The theorems behind the contract of `sqrt`: above zero `sqrtOf x` is the f32 nearest to √x, and no other is. Assumes nothing.
-use mathlib.Core.Path.{_≡_, subst, sym, ap, _∙_}
+use mathlib.Core.Path.{_≡_, ap, _∙_}
 use Prim.Native.Nat.{ℕ}
 use lib.Dec.{T}
 use lib.Ieee.{Float, binary32, fits}
@@ -12,7 +12,7 @@ use Rattle.root.specs.Nearest.{Nearer, IsNearest}
 use Rattle.root.specs.Promise.{SquareRoot}
 use Rattle.root.proofs.Closest.{nearest-one}
 use Rattle.root.proofs.Units.{positive-unique, positive-root}
-use Rattle.root.proofs.Grid.{representable}
+use Rattle.float.proofs.Units.{representable}
 use Rattle.root.proofs.Radicand.{radicand-low, radicand-high, radicand-representable}
 use Rattle.root.proofs.Special.{sqrt-of-nan, sqrt-of-infinity, sqrt-of-zero, sqrt-below-zero}
 use Rattle.root.proofs.Result.{result-units, result-nearer, result-positive, result-fits}

@@ -5,7 +5,7 @@ use native.Mathlib.Nat.{le-of-eq, le-of-lt, le-trans, lt-of-lt-of-le, lt-of-le-o
 use native.Mathlib.Nat.{le-of-suc-le-suc, mul-assoc, mul-le-mul-right, lt-of-mul-lt-mul-right}
 use native.Mathlib.Omega.{arith}
 use lib.Pow.{pow-add, pow-mono, shl-lt}
-use Rattle.root.proofs.Grid.{Representable}
+use Rattle.float.proofs.Units.{Representable}
 
 multiple : (k y : ℕ) → Representable y → 2 ^ (23 + k) ≤ y → (z : ℕ) × (y ≡ z * 2 ^ k)
 multiple k y r h =

@@ -15,7 +15,8 @@ use lib.Ieee.Positive.{positive, positive-of-value}
 use Rattle.root.specs.Root.{nearestRoot}
 use Rattle.root.specs.Steps.{Scaled, Rounds}
 use Rattle.root.proofs.Leading.{digits-after}
-use Rattle.root.proofs.Units.{units-of, positive-bits}
+use Rattle.float.proofs.Units.{units-of}
+use Rattle.root.proofs.Units.{positive-bits}
 
 module _ (q k : ℕ) (low : 2 ^ 23 ≤ q) (high : q < 2 ^ 24) where
   packed-positive : T (positive (odd 25 false q k 149))

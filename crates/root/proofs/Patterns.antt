@@ -1,6 +1,6 @@
 -- What a bit pattern stands for: its sign, and if finite its units, by exponent's field and fraction. Assumes nothing.
 use mathlib.Core.Path.{_≡_, sym}
-use mathlib.Core.Bool.{true, false, not, true≢false}
+use mathlib.Core.Bool.{true, false, not}
 use Prim.Native.Nat.{ℕ, zero, suc, _+_, _*_, _/_, _%_, _^_, _≤_, _<_}
 use native.Mathlib.Nat.{mul-one, mul-pos, mod-eq-of-lt}
 use native.Mathlib.Omega.{arith}
@@ -8,13 +8,13 @@ use borrow.Author.Tests.{le-leb, lt-leb}
 use lib.Arith.{le→nltb}
 use lib.Dec.{T}
 use lib.Pow.{pow-pos}
-use lib.Ieee.{Float, nan, inf, fin, binary32, ofFields, ofBits, toBits, nanBits, isNan, ne, fits}
+use lib.Ieee.{Float, binary32, ofFields, ofBits, toBits, nanBits, fits}
 use lib.Ieee.Bits.{ofBits-toBits, nanBits-above}
 use lib.Ieee.Exact.{HasValue}
 use Rattle.float.specs.Fields.{fieldUnits}
 use Rattle.float.proofs.Fields.{field-value}
 use Rattle.float.specs.Units.{inUnits}
-use Rattle.root.proofs.Units.{units-of}
+use Rattle.float.proofs.Units.{units-of}
 
 -- ---- by the field x and the fraction t
 pub field-positive : (x t : ℕ) → 0 < x * 2 ^ 23 + t → 0 < fieldUnits x t
@@ -41,12 +41,6 @@ units-at b h = units-of (ofBits binary32 b) false (fieldUnits (b / 2 ^ 23) (b % 
 -- ---- a float and its own bits
 pub from-bits : (x : Float) (b : ℕ) → T (fits binary32 x) → toBits binary32 x ≡ b → x ≡ ofBits binary32 b
 from-bits x b f e = rw (← e) (sym (ofBits-toBits binary32 x f))
-
-pub not-nan : (x : Float) → ne x x ≡ false → T (not (isNan x))
-unfolding ne isNan
-not-nan nan h = absurd (true≢false h)
-not-nan (inf s) h = tt
-not-nan (fin s m e) h = tt
 
 pub not-nan-bits : (b : ℕ) → b < 0x7f80_0000 → T (not (nanBits binary32 b))
 not-nan-bits b h = rw (nanBits-above binary32 b) (le→nltb 0x7f80_0000 (b % 0x8000_0000) (omega arith))

@@ -11,7 +11,7 @@ use lib.Ieee.Fits.{down-pos}
 use lib.Ieee.Positive.{positive, positive-finite}
 use Rattle.float.specs.Units.{inUnits}
 use Rattle.root.specs.Radicand.{radicand}
-use Rattle.root.proofs.Grid.{Representable, bounds, whole-units, representable}
+use Rattle.float.proofs.Units.{Representable, representable, in-units, units-are}
 
 units-range : (x : Float) → T (fits binary32 x) → T (positive x) → (0 < inUnits x) × (inUnits x < 2 ^ 277)
 units-range nan f p = absurd p
@@ -19,12 +19,11 @@ units-range (inf s) f p = absurd p
 units-range (fin true m e) f p = absurd p
 units-range (fin false zero e) f p = absurd p
 units-range (fin false (suc m) e) f p =
-    let b = bounds false m e f in
-    let w = whole-units false (suc m) e (b .fine) in
-    let some : 0 < suc m * 2 ^ w .0 = mul-pos (zero-lt-suc m) (pow-pos (w .0)) in
+    let u = in-units false (suc m) e f in
+    let some : 0 < suc m * 2 ^ u .places = mul-pos (zero-lt-suc m) (pow-pos (u .places)) in
     let under : suc m * up e * 2 ^ 149 < 2 ^ 277 * down e =
-    rw (← mul-right-comm (2 ^ 128) (down e) (2 ^ 149)) (mul-lt-mul-of-pos-right (b .small) (pow-pos 149)) in
-    (rw (w .1) some, div-lt-iff-lt-mul (down-pos e) .1 under)
+    rw (← mul-right-comm (2 ^ 128) (down e) (2 ^ 149)) (mul-lt-mul-of-pos-right (u .small) (pow-pos 149)) in
+    (rw (units-are false (suc m) e u) some, div-lt-iff-lt-mul (down-pos e) .1 under)
 
 module _ (x : Float) (f : T (fits binary32 x)) (p : T (positive x)) where
   pub radicand-low : 2 ^ 46 ≤ radicand x

@@ -20,8 +20,7 @@ use Rattle.root.proofs.Whole.{whole-root}
 use Rattle.root.proofs.Leading.{leading-low, leading-under, leading-over}
 use Rattle.root.proofs.Halfway.{no-tie}
 use Rattle.root.proofs.Closest.{lower-nearer, upper-nearer}
-use Rattle.root.proofs.Units.{units-of}
-use Rattle.root.proofs.Grid.{Representable}
+use Rattle.float.proofs.Units.{Representable, units-of}
 use Rattle.root.proofs.Neighbours.{next-up, next-down}
 
 value : (n : ℕ) → HasValue (nearestRoot n) false (rounded n * 2 ^ dropped n) (2 ^ 149)

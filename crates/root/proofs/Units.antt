@@ -1,24 +1,15 @@
--- A float by its units: those of an exact value, and what they tell of a positive float and its root. Assumes nothing.
+-- A positive float by its units: its bits, itself, and its root. Assumes nothing.
 use mathlib.Core.Path.{_≡_, sym, ap, _∙_}
-use mathlib.Core.Bool.{Bool, true, false}
+use mathlib.Core.Bool.{true, false}
 use Prim.Native.Nat.{ℕ, zero, suc, _+_, _-_, _*_, _/_, _^_}
-use native.Mathlib.Nat.{zero-add, mul-div-cancel}
+use native.Mathlib.Nat.{zero-add}
 use lib.Dec.{T, eqb·suc-zero}
 use lib.Ieee.{Float, nan, inf, fin, binary32, size, fits, ofBits, toBits}
 use lib.Ieee.Bits.{ofBits-toBits}
-use lib.Ieee.Exact.{HasValue}
-use lib.Ieee.Fits.{down-pos}
 use lib.Ieee.Positive.{positive}
 use Rattle.float.specs.Units.{inUnits}
 use Rattle.root.specs.Radicand.{radicand}
 use Rattle.root.specs.Root.{nearestRoot, sqrtOf}
-
-pub units-of : (v : Float) (s : Bool) (a : ℕ) → HasValue v s a (2 ^ 149) → inUnits v ≡ a
-units-of nan s a h = absurd h
-units-of (inf t) s a h = absurd h
-units-of (fin t m e) s a h = rw (h .1) (mul-div-cancel a (down-pos e))
-
--- ---- of a positive float
 
 -- the exponent's field counts the digits after the leading 24, and the leading one of those adds one to it
 abbrev pub bitsAt : ℕ → ℕ

@@ -12,8 +12,9 @@ use lib.Ieee.{Float, fin, binary32, up, down, fits}
 use lib.Ieee.Fits.{down-pos}
 use lib.Ieee.Exact.{HasValue}
 use lib.Ieee.Back.{round-whole}
+use Rattle.float.proofs.Units.{in-units}
 use Rattle.rounding.specs.Values.{sizeDown, sizeUp, wholeOf}
-use Rattle.rounding.proofs.Whole.{fits-says, is-whole}
+use Rattle.rounding.proofs.Whole.{is-whole}
 
 -- n is the greatest whole number that is not above the size m * 2 ^ e, or the least that is not below it
 pub record Greatest (n m : ℕ) (e : ℤ) : Type 0 where
@@ -47,9 +48,9 @@ exact-pos s m k n f is =
 pub down-exact : (s : Bool) (m : ℕ) (e : ℤ) → T (fits binary32 (fin s m e)) → HasValue (wholeOf s (sizeDown m e)) s (sizeDown m e) 1
 down-exact s zero e f = exact-at s _ (le-trans (div-le-self (0 * up e) (down e)) (omega arith))
 down-exact s (suc m) (pos k) f = exact-pos s m k _ f (div-one (suc m * 2 ^ k))
-down-exact s (suc m) (negsuc k) f = exact-at s _ (le-trans (div-le-self (suc m * 1) (2 ^ suc k)) (omega (arith, fits-says s m (negsuc k) f .0)))
+down-exact s (suc m) (negsuc k) f = exact-at s _ (le-trans (div-le-self (suc m * 1) (2 ^ suc k)) (omega (arith, in-units s (suc m) (negsuc k) f .few)))
 
 pub up-exact : (s : Bool) (m : ℕ) (e : ℤ) → T (fits binary32 (fin s m e)) → HasValue (wholeOf s (sizeUp m e)) s (sizeUp m e) 1
 up-exact s zero e f = exact-at s _ (div-le-of-le-mul (down e) (omega (arith, down-pos e)))
 up-exact s (suc m) (pos k) f = exact-pos s m k _ f (div-one (suc m * 2 ^ k + 0) ∙ add-zero (suc m * 2 ^ k))
-up-exact s (suc m) (negsuc k) f = exact-at s _ (div-le-of-le-mul (2 ^ suc k) (omega (arith, fits-says s m (negsuc k) f .0, pow-pos (suc k))))
+up-exact s (suc m) (negsuc k) f = exact-at s _ (div-le-of-le-mul (2 ^ suc k) (omega (arith, in-units s (suc m) (negsuc k) f .few, pow-pos (suc k))))
