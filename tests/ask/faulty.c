@@ -1,4 +1,4 @@
-/* Routines that write where they should not, in the place of the library's: ./ask must tell. */
+/* Routines that do what none may, in the place of the library's: ./ask and the hostile calls must tell. */
 #include "routines.h"
 #include "bagnoszyk.h"
 
@@ -10,7 +10,7 @@ static void two(const struct arguments *in, struct answer *out) {
     out->values[0].u = 2;
 }
 
-static void two_and_one_more(const struct arguments *in, struct answer *out) {
+static void one_more(const struct arguments *in, struct answer *out) {
     two(in, out);
     ((uint32_t *)in->lists[0].start)[2] = 3;
 }
@@ -31,10 +31,44 @@ static void told_too_many(const struct arguments *in, struct answer *out) {
     out->values[0].u = in->lists[0].length + 1;
 }
 
+static void told_and_refused(const struct arguments *in, struct answer *out) {
+    refused(in, out);
+    out->values[0].u = 1;
+}
+
+static void unknown_status(const struct arguments *in, struct answer *out) {
+    refused(in, out);
+    out->status = 14;
+}
+
+/* Endless, but for who looks at the memory. */
+static void endless(const struct arguments *in, struct answer *out) {
+    refused(in, out);
+    while (*(volatile uint32_t *)&out->status != BGZ_ANSWERED)
+        ;
+}
+
+/* Another answer with each call. */
+static void changing(const struct arguments *in, struct answer *out) {
+    static uint32_t calls;
+    refused(in, out);
+    out->status = 1 + __sync_fetch_and_add(&calls, 1) % 13;
+}
+
 #define ROW(name) {#name, #name, name, "r", "u", "l", "room"}
 
 const struct routine routines[] = {
-    ROW(two), ROW(two_and_one_more), ROW(refused), ROW(written_and_refused), ROW(told_too_many),
+    ROW(two),
+    ROW(one_more),
+    ROW(refused),
+    ROW(written_and_refused),
+    ROW(told_too_many),
+    ROW(told_and_refused),
+    ROW(unknown_status),
+    ROW(endless),
+    ROW(changing),
 };
 
 const size_t routine_count = sizeof routines / sizeof routines[0];
+
+const uint32_t last_refusal = 13;

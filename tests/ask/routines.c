@@ -601,3 +601,5 @@ const struct routine routines[] = {
 };
 
 const size_t routine_count = sizeof routines / sizeof routines[0];
+
+const uint32_t last_refusal = 13;

@@ -58,4 +58,7 @@ struct routine {
 extern const struct routine routines[];
 extern const size_t routine_count;
 
+/* The refusals are numbered from 1 to this. */
+extern const uint32_t last_refusal;
+
 #endif
