@@ -123,12 +123,13 @@ static void look(const struct caller *caller, const struct answer *out) {
     hold(caller, out->status == BGZ_ANSWERED || is_zero(routine, out), "a refusal with an answer");
     for (size_t i = 0; routine->lists[i] != '\0'; i++) {
         const struct list *list = &caller->in.lists[i];
-        size_t bytes = bytes_of(caller, i), first = written(caller, out, i) * entry_size(routine->lists[i]);
+        size_t bytes = bytes_of(caller, i);
         if (is_read(routine->lists[i])) {
             hold(caller, memcmp(list->start, caller->copies[i], bytes) == 0, "a list was written that is only read");
         } else {
-            hold(caller, first <= bytes, "more entries told than there is room for");
-            hold(caller, fence_holds(&caller->fences[i], list->start, bytes, first), "a list was written past its entries");
+            size_t count = written(caller, out, i), first = count * entry_size(routine->lists[i]);
+            hold(caller, count <= list->length, "more entries told than there is room for");
+            hold(caller, fence_holds(&caller->fences[i], list->start, bytes, first), "a list was written past the end");
         }
     }
 }
@@ -177,7 +178,7 @@ static void call_again_with_room(struct caller *caller, struct answer first) {
     size_t count = written(caller, &first, 0);
     place(caller, 0, count);
     struct answer out = call(caller);
-    hold(caller, out.status == BGZ_ANSWERED && written(caller, &out, 0) == count, "another answer with just enough room");
+    hold(caller, out.status == BGZ_ANSWERED && written(caller, &out, 0) == count, "another answer with room for it");
     if (count > 0) {
         place(caller, 0, count - 1);
         out = call(caller);

@@ -1,5 +1,6 @@
 /*
- * Hostile calls of every exported function: each must end, write where it may and nowhere else, and answer the same in every thread.
+ * Hostile calls of every exported function: each must end, write where it may and nowhere else, and answer the same in
+ * every thread.
  *
  *   hostile [OPTION VALUE]..
  *
@@ -44,11 +45,11 @@ static struct options {
 
 static struct caller *callers[MOST_THREADS];
 
-/* What stops the program in a call: a hang, a touch of a page beside a list. */
-static void stopped(int number) {
+/* A call hangs, or touches a page beside a list. */
+static void stopped(int signal_number) {
+    fputs(signal_number == SIGALRM ? "no end within the limit\n" : "a touch beside a list\n", stderr);
     for (size_t i = 0; i < options.threads; i++)
-        if (callers[i] != NULL)
-            tell(callers[i], number == SIGALRM ? "no end, or another thread's" : "a touch beside a list, or another thread's");
+        tell(callers[i], "at work");
     _exit(1);
 }
 

@@ -19,7 +19,7 @@ uint64_t hostile_whole(struct random *random);
 /* The length of a list: most often none, one or few entries, and at most `most`. */
 size_t hostile_length(struct random *random, size_t most);
 
-/* The bytes of a hatch list, good or damaged, or any bytes; the number of them, at most `most`, which has room for 2,000 records. */
+/* The bytes of a hatch list of up to 2,000 records, good or damaged; how many they are, which is at most `most`. */
 size_t hostile_bytes(struct random *random, uint8_t *bytes, size_t most);
 
 #endif
