@@ -10,6 +10,8 @@ enum { GUARD = 16 };
 /* No routine lists more: every tile of the largest sheet. */
 static const uint64_t MOST_ENTRIES = UINT64_C(16384) * 16384;
 
+const size_t ask_sizes[3] = {sizeof(struct routine), sizeof(struct reply), sizeof(struct request)};
+
 const struct routine *routine_named(const char *name) {
     for (size_t i = 0; i < routine_count; i++)
         if (routines[i].name != NULL && strcmp(routines[i].name, name) == 0)

@@ -26,6 +26,9 @@ struct request {
     char reason[200];
 };
 
+/* The sizes of struct routine, reply and request: a program in another language must have the same. */
+extern const size_t ask_sizes[3];
+
 /* The routine of this name, or null. */
 const struct routine *routine_named(const char *name);
 

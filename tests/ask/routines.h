@@ -8,7 +8,8 @@
 #include <stddef.h>
 #include <stdint.h>
 
-enum { MOST_WHOLES = 8, MOST_LISTS = 3, MOST_VALUES = 9 };
+/* What a routine may have of each; tests/ask/generate holds the table to it. */
+enum { MOST_FLOATS = 16, MOST_WHOLES = 8, MOST_LISTS = 3, MOST_VALUES = 9 };
 
 /* A list as C hands it over: its start and the number of its entries. */
 struct list {

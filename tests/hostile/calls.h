@@ -6,9 +6,6 @@
 #include "fence.h"
 #include "inputs.h"
 
-/* More than any routine takes. */
-enum { MOST_FLOATS = 16 };
-
 /* A caller: what it hands in at present, and a digest of all that it was answered. */
 struct caller {
     struct random random;

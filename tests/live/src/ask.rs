@@ -71,6 +71,7 @@ mod c {
     unsafe extern "C" {
         pub static routines: Routine;
         pub static routine_count: usize;
+        pub static ask_sizes: [usize; 3];
         pub fn ask(
             r: *const Routine,
             floats: *const f32,
@@ -91,6 +92,8 @@ mod c {
 
 /// The routines that have requests.
 pub fn all() -> impl Iterator<Item = &'static Routine> {
+    let sizes = [size_of::<Routine>(), size_of::<c::Reply>(), size_of::<c::Request>()];
+    assert_eq!(sizes, unsafe { c::ask_sizes }, "the structs here and in tests/ask differ");
     let table = unsafe { slice::from_raw_parts(&raw const c::routines, c::routine_count) };
     table.iter().filter(|routine| !routine.name.is_null())
 }
