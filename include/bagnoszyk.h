@@ -412,8 +412,8 @@ bool bgz_obb2_is_include_point2(bgz_obb2 o, bgz_vec2 p);
 bgz_point_answer bgz_obb2_nearest_point2(bgz_obb2 o, bgz_vec2 p);
 
 /*
- * Whether a turned and an upright box meet: no if on some axis (x, y, and those across u and v) the computed projections of
- * the corners of one lie strictly below those of the other. Boxes that only touch meet.
+ * Whether a turned and an upright box meet: no exactly if on some axis (x, y, and those across u and v) the computed
+ * projections of the corners of one lie strictly below those of the other. Ranges whose computed ends are equal overlap.
  */
 bool bgz_obb2_is_intersect_aabb2(bgz_obb2 o, bgz_aabb2 b);
 

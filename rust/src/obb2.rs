@@ -11,11 +11,11 @@ unsafe extern "C" {
     #[link_name = "bgz_obb2_is_include_point2"]
     pub safe fn is_include_point2(o: Obb2, p: Vec2) -> bool;
 
-    /// Whether a turned and an upright box meet. Boxes that only touch do.
+    /// Whether a turned and an upright box meet. Ranges whose computed ends are equal overlap.
     #[link_name = "bgz_obb2_is_intersect_aabb2"]
     pub safe fn is_intersect_aabb2(o: Obb2, b: Aabb2) -> bool;
 
-    /// Whether two turned boxes meet. Boxes that only touch do.
+    /// Whether two turned boxes meet, whichever comes first.
     #[link_name = "bgz_obb2_is_intersect_obb2"]
     pub safe fn is_intersect_obb2(a: Obb2, b: Obb2) -> bool;
 }

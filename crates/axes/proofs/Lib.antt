@@ -1,3 +1,6 @@
+pub mod Disjoint
+pub mod Ends
 pub mod Exchanged
 pub mod First
+pub mod Order
 pub mod Ranges

@@ -8,7 +8,7 @@ ghost use mathlib.Core.Path.{_≡_};
 ghost use Rattle.c_answers.specs.Answers.{ofNearest};
 ghost use Rattle.obb2.specs.Corners.{cornerPointsOf};
 ghost use Rattle.obb2_point.specs.Point.{isIncludePoint2Of, nearestPoint2Of};
-ghost use Rattle.obb2.specs.Intersect.{isIntersectAabb2Of, isIntersectObb2Of};
+ghost use Rattle.obb2.specs.Promise.{IsIntersectAabb2Promise, IsIntersectObb2Promise};
 
 #[no_mangle]
 pub extern "C" fn bgz_obb2_corner_points(o: Obb2) -> Corners
@@ -33,14 +33,14 @@ pub extern "C" fn bgz_obb2_nearest_point2(o: Obb2, p: Vec2) -> PointAnswer
 
 #[no_mangle]
 pub extern "C" fn bgz_obb2_is_intersect_aabb2(o: Obb2, b: Aabb2) -> bool
-    ensures { λ r. ⌜ r ≡ isIntersectAabb2Of o b ⌝ }
+    ensures { λ r. ⌜ IsIntersectAabb2Promise o b r ⌝ }
 {
     obb2::is_intersect_aabb2(o, b)
 }
 
 #[no_mangle]
 pub extern "C" fn bgz_obb2_is_intersect_obb2(a: Obb2, b: Obb2) -> bool
-    ensures { λ r. ⌜ r ≡ isIntersectObb2Of a b ⌝ }
+    ensures { λ r. ⌜ IsIntersectObb2Promise a b r ⌝ }
 {
     obb2::is_intersect_obb2(a, b)
 }

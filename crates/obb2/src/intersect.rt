@@ -6,7 +6,8 @@ use types::Obb2;
 use types::Vec2;
 ghost use mathlib.Core.Path.{_≡_};
 ghost use Rattle.obb2.specs.Corners.{cornersOf, uprightCornersOf};
-ghost use Rattle.obb2.specs.Intersect.{acrossOf, isIntersectAabb2Of, isIntersectObb2Of};
+ghost use Rattle.obb2.specs.Intersect.{acrossOf};
+ghost use Rattle.obb2.specs.Promise.{IsIntersectAabb2Promise, IsIntersectObb2Promise};
 
 // The corners as the search takes them.
 fn corners(o: Obb2) -> [Vec2; 4]
@@ -50,9 +51,9 @@ fn across(x: f32, y: f32) -> Vec2
     Vec2 { x: -y, y: x }
 }
 
-// Whether a turned and an upright box meet. Boxes that only touch do.
+// Whether a turned and an upright box meet. Ranges whose computed ends are equal overlap.
 pub fn is_intersect_aabb2(o: Obb2, b: Aabb2) -> bool
-    ensures { λ r. ⌜ r ≡ isIntersectAabb2Of o b ⌝ }
+    ensures { λ r. ⌜ IsIntersectAabb2Promise o b r ⌝ }
 {
     let axes = [
         Vec2 { x: 1.0, y: 0.0 },
@@ -65,7 +66,7 @@ pub fn is_intersect_aabb2(o: Obb2, b: Aabb2) -> bool
 
 // Whether two turned boxes meet, whichever comes first.
 pub fn is_intersect_obb2(a: Obb2, b: Obb2) -> bool
-    ensures { λ r. ⌜ r ≡ isIntersectObb2Of a b ⌝ }
+    ensures { λ r. ⌜ IsIntersectObb2Promise a b r ⌝ }
 {
     let axes = [
         across(a.ux, a.uy),

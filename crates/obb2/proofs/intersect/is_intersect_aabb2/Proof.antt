@@ -3,6 +3,7 @@ use borrow.Author.Needs.{needs}
 use Rattle.obb2.specs.Intersect.{isIntersectAabb2Of}
 use Rattle.axes.specs.Axes.{meets}
 use Rattle.axes.proofs.First.{first-none}
+use Rattle.obb2.proofs.Promised.{aabb2-promised}
 use Rattle.obb2.proofs.intersect.is_intersect_aabb2.Statement.{statement}
 use Rattle.obb2.proofs.intersect.is_intersect_aabb2.Tie as tie
 
@@ -24,14 +25,15 @@ first-separating-requires c κs = search needs
 returns : tie.Need-returns
 unfolding isIntersectAabb2Of meets
 returns c =
-    rw (
+    aabb2-promised _ _ _
+    (rw (
       c .first-separating .ensures,
       c .before .upright-corners .ensures,
       c .before .before .corners .ensures,
       c .before .before .before .across2 .ensures,
       c .before .before .before .before .across .ensures,
     )
-    (first-none _ _)
+    (first-none _ _))
 
 pub is-intersect-aabb2-spec : {M : Type 1} → statement M
 is-intersect-aabb2-spec =

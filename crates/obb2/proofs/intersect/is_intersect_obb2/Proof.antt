@@ -3,6 +3,7 @@ use borrow.Author.Needs.{needs}
 use Rattle.obb2.specs.Intersect.{isIntersectObb2Of}
 use Rattle.axes.specs.Axes.{meets}
 use Rattle.axes.proofs.First.{first-none}
+use Rattle.obb2.proofs.Promised.{obb2-promised}
 use Rattle.obb2.proofs.intersect.is_intersect_obb2.Statement.{statement}
 use Rattle.obb2.proofs.intersect.is_intersect_obb2.Tie as tie
 
@@ -30,7 +31,8 @@ first-separating-requires c κs = search needs
 returns : tie.Need-returns
 unfolding isIntersectObb2Of meets
 returns c =
-    rw (
+    obb2-promised _ _ _
+    (rw (
       c .first-separating .ensures,
       c .before .corners2 .ensures,
       c .before .before .corners .ensures,
@@ -39,7 +41,7 @@ returns c =
       c .before .before .before .before .before .across2 .ensures,
       c .before .before .before .before .before .before .across .ensures,
     )
-    (first-none _ _)
+    (first-none _ _))
 
 pub is-intersect-obb2-spec : {M : Type 1} → statement M
 is-intersect-obb2-spec =
