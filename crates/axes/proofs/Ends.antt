@@ -7,7 +7,7 @@ use mathlib.Core.List.{List, [], _∷_, List·Memᴰ·head, List·Memᴰ·tail, 
 use lib.Ieee.{Float, lt, isNan}
 use Rattle.float.specs.Values.{minOf, maxOf}
 use Rattle.float.specs.Folds.{foldMin, foldMax}
-use Rattle.float.specs.Laws.{above-number, below-number}
+use Rattle.float.proofs.Laws.{above-number, below-number}
 use Rattle.axes.specs.Axes.{rangeOf}
 use Rattle.axes.specs.Disjoint.{+∞, -∞, NumberOf, NumberOfOr, RangeEnds, OneRange}
 use Rattle.axes.proofs.Order.{lt-itself, lt-one-way, lt-not}

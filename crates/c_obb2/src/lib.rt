@@ -7,7 +7,7 @@ use types::Vec2;
 ghost use mathlib.Core.Path.{_≡_};
 ghost use Rattle.c_answers.specs.Answers.{ofNearest};
 ghost use Rattle.obb2.specs.Corners.{cornerPointsOf};
-ghost use Rattle.obb2_point.specs.Point.{isIncludePoint2Of, nearestPoint2Of};
+ghost use Rattle.obb2.specs.Point.{isIncludePoint2Of, nearestPoint2Of};
 ghost use Rattle.obb2.specs.Promise.{IsIntersectAabb2Promise, IsIntersectObb2Promise};
 
 #[no_mangle]
@@ -21,14 +21,14 @@ pub extern "C" fn bgz_obb2_corner_points(o: Obb2) -> Corners
 pub extern "C" fn bgz_obb2_is_include_point2(o: Obb2, p: Vec2) -> bool
     ensures { λ r. ⌜ r ≡ isIncludePoint2Of o p ⌝ }
 {
-    obb2_point::is_include_point2(o, p)
+    obb2::is_include_point2(o, p)
 }
 
 #[no_mangle]
 pub extern "C" fn bgz_obb2_nearest_point2(o: Obb2, p: Vec2) -> PointAnswer
     ensures { λ r. ⌜ r ≡ ofNearest (nearestPoint2Of o p) ⌝ }
 {
-    c_answers::nearest(obb2_point::nearest_point2(o, p))
+    c_answers::nearest(obb2::nearest_point2(o, p))
 }
 
 #[no_mangle]

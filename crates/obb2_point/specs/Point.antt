@@ -7,9 +7,9 @@ use Rattle.types.specs.declared.answer.Nearest.{Nearest}
 use Rattle.types.specs.declared.answer.Nearest.the-variants.{Some, Refused}
 use Rattle.obb2_point.specs.declared.Candidate.{Candidate}
 use Rattle.vec2.specs.Values as vec2
-use Rattle.edge2.specs.Measure as edge2
-use Rattle.edge2.specs.Nearest.{nearestToPointOf}
-use Rattle.obb2.specs.Corners.{cornerPointsOf}
+use Rattle.edge2_measure.specs.Measure as edge2
+use Rattle.edge2_nearest.specs.Nearest.{nearestToPointOf}
+use Rattle.obb2_corners.specs.Corners.{cornerPointsOf}
 
 -- d, seen along the half edge v, lies past either end of the whole edge. A NaN lies past neither
 unfoldable pub beyondOf : Vec2 → Vec2 → Bool

@@ -1,5 +1,5 @@
 // A turned box and a point: whether the box includes it, and the box's point nearest to it.
-use obb2::corner_points;
+use obb2_corners::corner_points;
 use types::Nearest;
 use types::Obb2;
 use types::Vec2;
@@ -39,11 +39,11 @@ struct Candidate {
 fn on_edge(s: Vec2, e: Vec2, p: Vec2) -> Candidate
     ensures { λ r. ⌜ r ≡ onEdgeOf p s e ⌝ }
 {
-    let near = edge2::nearest_to_point(s, e, p);
+    let near = edge2_nearest::nearest_to_point(s, e, p);
     let point = near.point;
     Candidate {
         point,
-        length: edge2::length(point, p),
+        length: edge2_measure::length(point, p),
     }
 }
 

@@ -8,9 +8,9 @@ use Rattle.types.specs.declared.shape.Obb2.{Obb2}
 use Rattle.vec2.specs.Values.{dotOf}
 use Rattle.axes.proofs.Disjoint.{meets-no}
 use Rattle.axes.proofs.Exchanged.{meets-exchanged}
-use Rattle.obb2.specs.Corners.{cornersOf, uprightCornersOf}
-use Rattle.obb2.specs.Intersect.{axesOf, uprightAxes, isIntersectAabb2Of, isIntersectObb2Of}
-use Rattle.obb2.specs.Promise.{IsIntersectAabb2Promise, IsIntersectObb2Promise}
+use Rattle.obb2_corners.specs.Corners.{cornersOf, uprightCornersOf}
+use Rattle.obb2_intersect.specs.Intersect.{axesOf, uprightAxes, isIntersectAabb2Of, isIntersectObb2Of}
+use Rattle.obb2_intersect.specs.Promise.{IsIntersectAabb2Promise, IsIntersectObb2Promise}
 
 pub is-intersect-obb2-exchanged : (a b : Obb2) → isIntersectObb2Of a b ≡ isIntersectObb2Of b a
 unfolding isIntersectObb2Of

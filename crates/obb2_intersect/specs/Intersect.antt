@@ -7,7 +7,7 @@ use Rattle.types.specs.declared.shape.Obb2.{Obb2}
 use Rattle.types.specs.declared.shape.Vec2.{Vec2}
 use Rattle.float.specs.Rounded.{+0, one}
 use Rattle.vec2.specs.Values.{dotOf}
-use Rattle.obb2.specs.Corners.{cornersOf, uprightCornersOf}
+use Rattle.obb2_corners.specs.Corners.{cornersOf, uprightCornersOf}
 use Rattle.axes.specs.Axes.{meets}
 
 -- at a right angle to the edge (x, y)

@@ -2,7 +2,7 @@
 use types::Obb2;
 use types::Vec2;
 ghost use mathlib.Core.Path.{_≡_};
-ghost use Rattle.obb2.specs.Corners.{cornerPointsOf};
+ghost use Rattle.obb2_corners.specs.Corners.{cornerPointsOf};
 
 // Four corners, each joined to the next by an edge, and the last to the first.
 #[repr(C)]

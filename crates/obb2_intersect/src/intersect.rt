@@ -1,13 +1,13 @@
 // Whether a turned box meets another box: no exactly if some axis separates their corners.
-use crate::corners::corner_points;
 use crate::search::first_separating;
+use obb2_corners::corner_points;
 use types::Aabb2;
 use types::Obb2;
 use types::Vec2;
 ghost use mathlib.Core.Path.{_≡_};
-ghost use Rattle.obb2.specs.Corners.{cornersOf, uprightCornersOf};
-ghost use Rattle.obb2.specs.Intersect.{acrossOf};
-ghost use Rattle.obb2.specs.Promise.{IsIntersectAabb2Promise, IsIntersectObb2Promise};
+ghost use Rattle.obb2_corners.specs.Corners.{cornersOf, uprightCornersOf};
+ghost use Rattle.obb2_intersect.specs.Intersect.{acrossOf};
+ghost use Rattle.obb2_intersect.specs.Promise.{IsIntersectAabb2Promise, IsIntersectObb2Promise};
 
 // The corners as the search takes them.
 fn corners(o: Obb2) -> [Vec2; 4]

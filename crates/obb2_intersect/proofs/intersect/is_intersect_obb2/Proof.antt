@@ -1,11 +1,11 @@
--- `obb2::is_intersect_obb2` meets its contract: the place is four exactly if no axis separates. Assumes nothing.
+-- `obb2_intersect::is_intersect_obb2` meets its contract: the place is four exactly if no axis separates. Assumes nothing.
 use borrow.Author.Needs.{needs}
-use Rattle.obb2.specs.Intersect.{isIntersectObb2Of}
+use Rattle.obb2_intersect.specs.Intersect.{isIntersectObb2Of}
 use Rattle.axes.specs.Axes.{meets}
 use Rattle.axes.proofs.First.{first-none}
-use Rattle.obb2.proofs.Promised.{obb2-promised}
-use Rattle.obb2.proofs.intersect.is_intersect_obb2.Statement.{statement}
-use Rattle.obb2.proofs.intersect.is_intersect_obb2.Tie as tie
+use Rattle.obb2_intersect.proofs.Promised.{obb2-promised}
+use Rattle.obb2_intersect.proofs.intersect.is_intersect_obb2.Statement.{statement}
+use Rattle.obb2_intersect.proofs.intersect.is_intersect_obb2.Tie as tie
 
 across-requires : tie.Need-across-requires
 across-requires c κs = search needs

@@ -1,7 +1,7 @@
--- `obb2::corners` meets its contract, by what its call ensures. Assumes nothing.
+-- `obb2_intersect::corners` meets its contract, by what its call ensures. Assumes nothing.
 use borrow.Author.Needs.{needs}
-use Rattle.obb2.proofs.intersect.corners.Statement.{statement}
-use Rattle.obb2.proofs.intersect.corners.Tie as tie
+use Rattle.obb2_intersect.proofs.intersect.corners.Statement.{statement}
+use Rattle.obb2_intersect.proofs.intersect.corners.Tie as tie
 
 corner-points-requires : tie.Need-corner-points-requires
 corner-points-requires c κs = search needs

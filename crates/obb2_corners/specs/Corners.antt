@@ -3,7 +3,7 @@ use mathlib.Core.List.{List, [], _∷_}
 use Rattle.types.specs.declared.shape.Aabb2.{Aabb2}
 use Rattle.types.specs.declared.shape.Obb2.{Obb2}
 use Rattle.types.specs.declared.shape.Vec2.{Vec2}
-use Rattle.obb2.specs.declared.corners.Corners.{Corners}
+use Rattle.obb2_corners.specs.declared.Corners.{Corners}
 use Rattle.float.specs.Rounded.{_⊕_, _⊖_}
 
 -- centre + u + v, centre - u + v, centre - u - v, centre + u - v

@@ -8,8 +8,8 @@ use Rattle.types.specs.declared.shape.Aabb2.{Aabb2}
 use Rattle.types.specs.declared.shape.Obb2.{Obb2}
 use Rattle.vec2.specs.Values.{dotOf}
 use Rattle.axes.specs.Disjoint.{SeparatingAxis}
-use Rattle.obb2.specs.Corners.{cornersOf, uprightCornersOf}
-use Rattle.obb2.specs.Intersect.{axesOf, uprightAxes, isIntersectAabb2Of, isIntersectObb2Of}
+use Rattle.obb2_corners.specs.Corners.{cornersOf, uprightCornersOf}
+use Rattle.obb2_intersect.specs.Intersect.{axesOf, uprightAxes, isIntersectAabb2Of, isIntersectObb2Of}
 
 -- r is the answer for a turned and an upright box
 pub record IsIntersectAabb2Promise (o : Obb2) (b : Aabb2) (r : Bool) : Type 0 where
