@@ -28,20 +28,23 @@ ratioFromPositionOf ps pe q = let v = vec2.subOf pe ps in vec2.dotOf v q ⊘ vec
 -- ---- culling
 
 -- how far apart the numbers a and b are, as the larger less the smaller
-abbrev pub extent : Float → Float → Float
-extent a b = maxOf a b ⊖ minOf a b
+abbrev pub extentOf : Float → Float → Float
+extentOf a b = maxOf a b ⊖ minOf a b
 
-unfoldable pub slackOf : Vec2 → Vec2 → Vec2 → Vec2 → Float
-slackOf s0 e0 s1 e1 = (extent (s0 .x) (e0 .x) ⊕ extent (s0 .y) (e0 .y) ⊕ extent (s1 .x) (e1 .x) ⊕ extent (s1 .y) (e1 .y)) ⊗ epsilon
+-- how far apart two edges may lie and still count as touching
+abbrev pub slackOf : Vec2 → Vec2 → Vec2 → Vec2 → Float
+slackOf s0 e0 s1 e1 = (extentOf (s0 .x) (e0 .x) ⊕ extentOf (s0 .y) (e0 .y) ⊕ extentOf (s1 .x) (e1 .x) ⊕ extentOf (s1 .y) (e1 .y)) ⊗ epsilon
 
 -- the range of a and b lies below that of c and d, by more than the slack
-abbrev pub below : Float → Float → Float → Float → Float → Bool
-below slack a b c d = lt (maxOf a b ⊕ slack) (minOf c d)
+abbrev pub belowOf : Float → Float → Float → Float → Float → Bool
+belowOf slack a b c d = lt (maxOf a b ⊕ slack) (minOf c d)
 
--- no in some dimension one edge's range lies below the other's
+-- in no dimension does one edge's range lie below the other's
 unfoldable pub cullingIntersectionOf : Vec2 → Vec2 → Vec2 → Vec2 → Bool
 cullingIntersectionOf s0 e0 s1 e1 =
-    let w = slackOf s0 e0 s1 e1 in
+    let slack = slackOf s0 e0 s1 e1 in
     not
-    (below w (s1 .x) (e1 .x) (s0 .x) (e0 .x)
-    || (below w (s0 .x) (e0 .x) (s1 .x) (e1 .x) || (below w (s1 .y) (e1 .y) (s0 .y) (e0 .y) || below w (s0 .y) (e0 .y) (s1 .y) (e1 .y))))
+    (belowOf slack (s1 .x) (e1 .x) (s0 .x) (e0 .x)
+    || belowOf slack (s0 .x) (e0 .x) (s1 .x) (e1 .x)
+    || belowOf slack (s1 .y) (e1 .y) (s0 .y) (e0 .y)
+    || belowOf slack (s0 .y) (e0 .y) (s1 .y) (e1 .y))

@@ -2,7 +2,7 @@
 use types::Vec2;
 ghost use mathlib.Core.Path.{_≡_};
 ghost use Rattle.edge2_measure.specs.Measure.{lengthOf, squaredLengthOf, unitEdgeVectorOf, positionFromRatioOf, ratioFromPositionOf, cullingIntersectionOf};
-ghost use Rattle.edge2_measure.specs.Measure.{slackOf};
+ghost use Rattle.edge2_measure.specs.Measure.{extentOf, slackOf, belowOf};
 
 pub fn length(s: Vec2, e: Vec2) -> f32
     ensures { λ r. ⌜ r ≡ lengthOf s e ⌝ }
@@ -52,15 +52,26 @@ pub fn ratio_from_position(ps: Vec2, pe: Vec2, q: Vec2) -> f32
     (vx * q.x + vy * q.y) / root::sqrt(vx * vx + vy * vy)
 }
 
+// How far apart two coordinates are.
+fn extent(a: f32, b: f32) -> f32
+    ensures { λ r. ⌜ r ≡ extentOf a b ⌝ }
+{
+    float::max(a, b) - float::min(a, b)
+}
+
 // How far two edges may lie apart and still count as touching: the sum of their extents times 2 ^ -23.
 fn slack(s0: Vec2, e0: Vec2, s1: Vec2, e1: Vec2) -> f32
     ensures { λ r. ⌜ r ≡ slackOf s0 e0 s1 e1 ⌝ }
 {
-    let x0 = float::max(s0.x, e0.x) - float::min(s0.x, e0.x);
-    let y0 = float::max(s0.y, e0.y) - float::min(s0.y, e0.y);
-    let x1 = float::max(s1.x, e1.x) - float::min(s1.x, e1.x);
-    let y1 = float::max(s1.y, e1.y) - float::min(s1.y, e1.y);
-    (x0 + y0 + x1 + y1) * 0.00000011920929
+    (extent(s0.x, e0.x) + extent(s0.y, e0.y) + extent(s1.x, e1.x) + extent(s1.y, e1.y))
+        * 0.00000011920929
+}
+
+// Whether the range of a and b lies below that of c and d, by more than the slack.
+fn below(slack: f32, a: f32, b: f32, c: f32, d: f32) -> bool
+    ensures { λ r. ⌜ r ≡ belowOf slack a b c d ⌝ }
+{
+    float::max(a, b) + slack < float::min(c, d)
 }
 
 // Whether the edges' boxes, widened by the slack, meet: where they do not, the edges cannot cross.
@@ -68,17 +79,8 @@ pub fn culling_intersection(s0: Vec2, e0: Vec2, s1: Vec2, e1: Vec2) -> bool
     ensures { λ r. ⌜ r ≡ cullingIntersectionOf s0 e0 s1 e1 ⌝ }
 {
     let d = slack(s0, e0, s1, e1);
-    if float::max(s1.x, e1.x) + d < float::min(s0.x, e0.x) {
-        return false;
-    }
-    if float::max(s0.x, e0.x) + d < float::min(s1.x, e1.x) {
-        return false;
-    }
-    if float::max(s1.y, e1.y) + d < float::min(s0.y, e0.y) {
-        return false;
-    }
-    if float::max(s0.y, e0.y) + d < float::min(s1.y, e1.y) {
-        return false;
-    }
-    true
+    !(below(d, s1.x, e1.x, s0.x, e0.x)
+        | below(d, s0.x, e0.x, s1.x, e1.x)
+        | below(d, s1.y, e1.y, s0.y, e0.y)
+        | below(d, s0.y, e0.y, s1.y, e1.y))
 }

@@ -9,11 +9,11 @@ widened-requires c κs = search needs
 
 returns : tie.Need-returns
 unfolding addPointOf
-returns c = rw (c .before .if1 .taken, c .widened .ensures)
+returns c = simp (c .before .if1 .taken, c .widened .ensures)
 
 returns-2 : tie.Need-returns-2
 unfolding addPointOf
-returns-2 c = rw (c .if1 .left)
+returns-2 c = simp (c .if1 .left)
 
 pub add-point-spec : {M : Type 1} → statement M
 add-point-spec = tie.close (tie.spec widened-requires returns returns-2)
