@@ -1,5 +1,5 @@
 -- The rows hold for the definitions: antt computes each answer. Assumes nothing.
-use mathlib.Core.Path.{_≡_, refl}
+use mathlib.Core.Path.{refl}
 use lib.Ieee.{round, ofInt, ofBits, neg, add, sub, mul, div, lt, le, ne, eq, isNan, toUnsigned}
 use Rattle.float.specs.Values.{absOf, minOf, maxOf}
 use Rattle.rounding.specs.Values.{wholeOf, ceilOf}

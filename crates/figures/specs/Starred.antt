@@ -4,7 +4,7 @@ use Rattle.types.specs.declared.answer.Interval.the-variants.{Miss, Hit}
 use Rattle.types.specs.declared.answer.Extent.the-variants as extent
 use Rattle.types.specs.declared.answer.Pixels.the-variants as pixels
 use Rattle.tiles.specs.Answer.{sheet}
-use Rattle.figures.specs.Table.{plus, minus, half, at, range, box, line, ray, overlap, raster, tiles, stroke}
+use Rattle.figures.specs.Table.{plus, minus, halves, at, range, box, line, ray, overlap, raster, tiles, stroke}
 
 abbrev pub starred : List (Type 0)
 starred =
@@ -24,7 +24,7 @@ starred =
     ∷ overlap (range (plus 0) (plus 2)) (range (plus 2) (plus 3)) extent.None
     ∷ overlap (range (plus 0) (plus 2)) (range (plus 1) (plus 3)) (extent.Some (plus 1))
     -- raster 0.5 0.5 2.5 1.5, image 4 by 4: 0 0 2 1
-    ∷ raster (box (half 1) (half 1) (half 5) (half 3)) 4 4 (pixels.Some 0 0 2 1)
+    ∷ raster (box (halves 1) (halves 1) (halves 5) (halves 3)) 4 4 (pixels.Some 0 0 2 1)
     -- tiles 10 10 40 20, size 16, shape 4 by 3: 0 1 2 4 5 6
     ∷ tiles (box (plus 10) (plus 10) (plus 40) (plus 20)) (sheet 16 4 3) (0 ∷ 1 ∷ 2 ∷ 4 ∷ 5 ∷ 6 ∷ [])
     -- tiles 10 10 32 15, same: 0 1 2
@@ -32,5 +32,5 @@ starred =
     -- tiles -20 -20 -1 5, same: none, accepted
     ∷ tiles (box (minus 20) (minus 20) (minus 1) (plus 5)) (sheet 16 4 3) []
     -- stroke 0.5 3.5 to 3.5 0.5, image 8 by 8: 24 17 10 3 4
-    ∷ stroke (at (half 1) (half 7)) (at (half 7) (half 1)) 8 8 (24 ∷ 17 ∷ 10 ∷ 3 ∷ 4 ∷ [])
+    ∷ stroke (at (halves 1) (halves 7)) (at (halves 7) (halves 1)) 8 8 (24 ∷ 17 ∷ 10 ∷ 3 ∷ 4 ∷ [])
     ∷ []

@@ -1,6 +1,6 @@
 -- How document 01's table of figures is written: its numbers, its shapes, and what a row of each kind says. Definitions only.
-use mathlib.Core.Path.{_≡_}
 use Prim.{Unit}
+use mathlib.Core.Path.{_≡_}
 use mathlib.Core.Bool.{true, false}
 use mathlib.Core.List.{List, [], _∷_}
 use Prim.Native.Nat.{ℕ, _-_}
@@ -22,7 +22,7 @@ use Rattle.tiles.specs.Answer.{overlappingTilesOf}
 use Rattle.pixels.specs.Entries.{strokeOf}
 use Rattle.pixels.specs.Answer.{overlappingPixelsDdaOf}
 
--- ---- numbers, each an f32: `plus 4`, `minus 1`, and `half 7` for 3.5
+-- ---- numbers, each an f32: `plus 4`, `minus 1`, and `halves 7` for 3.5
 
 abbrev pub plus : ℕ → Float
 plus n = round binary32 false n 1
@@ -30,8 +30,8 @@ plus n = round binary32 false n 1
 abbrev pub minus : ℕ → Float
 minus n = round binary32 true n 1
 
-abbrev pub half : ℕ → Float
-half n = round binary32 false n 2
+abbrev pub halves : ℕ → Float
+halves n = round binary32 false n 2
 
 -- ---- shapes
 
@@ -44,7 +44,7 @@ range low high = record { low = low; high = high }
 abbrev pub box : Float → Float → Float → Float → Aabb2
 box a b c d = record { «min_x» = a; «min_y» = b; «max_x» = c; «max_y» = d }
 
--- ---- rows: what is asked, and that the definition answers it so
+-- ---- rows: what is asked, and that the definition answers it so, the sign of a zero too
 
 -- a line or a ray by its point and its direction
 abbrev pub line : Aabb2 → Vec2 → Vec2 → Interval → Type 0

@@ -2,7 +2,7 @@
 -- The first and the third line are twins of each other already. Definitions only.
 use mathlib.Core.List.{List, [], _∷_}
 use Rattle.types.specs.declared.answer.Interval.the-variants.{Miss, Hit}
-use Rattle.figures.specs.Table.{plus, minus, half, at, box, line, ray, stroke}
+use Rattle.figures.specs.Table.{plus, minus, halves, at, box, line, ray, stroke}
 
 abbrev pub twins : List (Type 0)
 twins =
@@ -19,5 +19,5 @@ twins =
     -- ray, point -4 1, direction -1 0: hit -4, -0
     ∷ ray (box (minus 4) (plus 0) (plus 0) (plus 2)) (at (minus 4) (plus 1)) (at (minus 1) (plus 0)) (Hit (minus 4) (minus 0))
     -- stroke 7.5 3.5 to 4.5 0.5, image 8 by 8: 31 22 13 4 3
-    ∷ stroke (at (half 15) (half 7)) (at (half 9) (half 1)) 8 8 (31 ∷ 22 ∷ 13 ∷ 4 ∷ 3 ∷ [])
+    ∷ stroke (at (halves 15) (halves 7)) (at (halves 9) (halves 1)) 8 8 (31 ∷ 22 ∷ 13 ∷ 4 ∷ 3 ∷ [])
     ∷ []
