@@ -1,15 +1,17 @@
 -- A finite f32 is fewer than 2 ^ 24 times a power of two, in units of 2 ^ -149: so its units are whole. Assumes nothing.
 use mathlib.Core.Path.{_≡_, refl, sym, ap, _∙_}
-use mathlib.Core.Bool.{Bool, _&&_}
+use mathlib.Core.Bool.{Bool, true, false, _&&_}
 use Prim.Native.Nat.{ℕ, zero, suc, _+_, _-_, _*_, _%_, _^_, _≤_, _<_}
-use native.Mathlib.Nat.{lt-of-not-le, not-le-of-lt, le-of-suc-le-suc, mul-one, mul-assoc, sub-add-cancel, mul-div-cancel}
+use native.Mathlib.Nat.{lt-of-not-le, not-le-of-lt, le-of-suc-le-suc, mul-one, mul-assoc, sub-add-cancel, mul-div-cancel, mul-le-mul-right, le-of-mul-le-mul-right}
 use lib.IntN.{ℤ, pos, negsuc}
 use lib.Dec.{T, leb, ltb, eqb, leb→le, ltb→lt, lit<, lit≤}
-use lib.Pow.{pow-add, pow-lt}
-use lib.Ieee.{Float, nan, inf, fin, binary32, up, down, fits}
+use lib.Pow.{pow-add, pow-lt, pow-pos}
+use lib.Ieee.{Float, nan, inf, fin, binary32, up, down, lt, fits}
 use lib.Ieee.Exact.{HasValue}
 use lib.Ieee.Fits.{and-l, and-r, down-pos}
+use lib.Ieee.Order.{transfer}
 use lib.Ieee.Scale.{finite}
+use borrow.Author.Tests.{ltb-true, ltb-false, lt-ltb, le-ltb}
 use Rattle.float.specs.Units.{signed, inUnits, unitsOf}
 use Rattle.float.proofs.Sign.{one-zero}
 
@@ -90,3 +92,32 @@ pub units-of-value : (x : Float) (s : Bool) (n : ℕ) → HasValue x s n (2 ^ 14
 units-of-value nan s n v = absurd v
 units-of-value (inf t) s n v = absurd v
 units-of-value (fin t m e) s n v = rw (v .0) (ap (signed s) (units-of (fin t m e) s n v))
+
+-- ---- the order of two f32s that are not negative is that of their units
+
+pub lt-units : (m : ℕ) (e : ℤ) (n : ℕ) (d : ℤ) → InUnits m e → InUnits n d
+    → lt (fin false m e) (fin false n d) ≡ ltb (inUnits (fin false m e)) (inUnits (fin false n d))
+unfolding lt
+lt-units m e n d u v = go (ltb a b) refl
+  where
+    a : ℕ
+    a = inUnits (fin false m e)
+
+    b : ℕ
+    b = inUnits (fin false n d)
+
+    a-exact : m * up e * 2 ^ 149 ≡ a * down e
+    a-exact = units-exact false m e u
+
+    b-exact : n * up d * 2 ^ 149 ≡ b * down d
+    b-exact = units-exact false n d v
+
+    to-units : n * up d * down e ≤ m * up e * down d → b * 2 ^ 149 ≤ a * 2 ^ 149
+    to-units = transfer b a (2 ^ 149) (2 ^ 149) (n * up d) (m * up e) (down d) (down e) (down-pos d) (down-pos e) (sym b-exact) (sym a-exact)
+
+    from-units : b * 2 ^ 149 ≤ a * 2 ^ 149 → n * up d * down e ≤ m * up e * down d
+    from-units = transfer (n * up d) (m * up e) (down d) (down e) b a (2 ^ 149) (2 ^ 149) (pow-pos 149) (pow-pos 149) b-exact a-exact
+
+    go : (t : Bool) → ltb a b ≡ t → ltb (m * up e * down d) (n * up d * down e) ≡ t
+    go true h = lt-ltb _ _ (lt-of-not-le (λ g. not-le-of-lt (ltb-true a b h) (le-of-mul-le-mul-right (to-units g) (pow-pos 149))))
+    go false h = le-ltb _ _ (from-units (mul-le-mul-right (2 ^ 149) (ltb-false a b h)))
