@@ -8,17 +8,19 @@ use Rattle.range.specs.Values.{intersectionLengthOf}
 use Rattle.aabb2_raster.specs.Raster.{rasterizeOf}
 use Rattle.tiles.specs.Tiles.{tilesOf}
 use Rattle.tiles.specs.Answer.{overlappingTilesOf}
-use Rattle.pixels.specs.Walk.{stepOf, axisOf, at, within, inRanges, leaves, exit, upto, positions}
-use Rattle.pixels.specs.Entries.{onSide, inSides, number, kept, each, pixels, entries, strokeOf}
-use Rattle.pixels.specs.Answer.{sidesTooLarge, withinLimit, pointFits, endsFit, sameEnds, fitted, overlappingPixelsDdaOf}
+use Rattle.lists.specs.Lent.{fitted}
+use Rattle.lists.specs.Places.{upto}
+use Rattle.pixels.specs.Walk.{stepOf, axisOf, at, within, inRanges, firstOutside, exit, positions}
+use Rattle.pixels.specs.Entries.{onSide, inSides, number, kept, pixels, entries, strokeOf}
+use Rattle.pixels.specs.Answer.{sidesTooLarge, withinLimit, firstOffender, sameEnds, overlappingPixelsDdaOf}
 use Rattle.figures.specs.Claim.{FiguresHold}
 
 pub hold : FiguresHold
 unfolding round ofInt ofBits neg add sub mul div lt le ne eq isNan toUnsigned absOf minOf maxOf wholeOf ceilOf
     narrowedOf narrowAll orderedOf clipOver aheadOf intersectionsAgainstLineOf intersectionsAgainstRayOf intersectionLengthOf rasterizeOf
     tilesOf overlappingTilesOf
-    stepOf axisOf at within inRanges leaves exit upto positions onSide inSides number kept each pixels entries strokeOf
-    sidesTooLarge withinLimit pointFits endsFit sameEnds fitted overlappingPixelsDdaOf
+    stepOf axisOf at within inRanges firstOutside exit upto positions onSide inSides number kept pixels entries strokeOf
+    sidesTooLarge withinLimit firstOffender sameEnds fitted overlappingPixelsDdaOf
 hold = (
   (refl, (refl, (refl, (refl, (refl, (refl, (refl, (refl, (refl, ((refl, refl), ((refl, refl), ((refl, refl), ((refl, refl, refl), tt))))))))))))),
   (refl, (refl, (refl, (refl, (refl, (refl, ((refl, refl, refl), tt))))))),

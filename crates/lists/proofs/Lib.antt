@@ -1,1 +1,2 @@
 pub mod Fill
+pub mod Lent

@@ -10,7 +10,7 @@ use lib.IntN.{pos}
 use lib.Ieee.{Float, nan, inf, fin, binary32, up, down, lt, inFloat, toUnsigned, ofBits}
 use lib.Ieee.Fits.{down-pos}
 use Rattle.float.specs.Rounded.{+0}
-use Rattle.pixels.specs.Size.{Size}
+use Rattle.rounded.specs.Size.{Size}
 
 -- a side is an f32
 pub side-float : (n : ℕ) → n ≤ 16384 → T (inFloat binary32 (pos n))

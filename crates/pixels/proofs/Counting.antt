@@ -8,8 +8,8 @@ use Rattle.types.specs.declared.shape.Vec2.{Vec2}
 use Rattle.pixels.specs.declared.axis.Axis.{Axis}
 use Rattle.pixels.specs.Walk.{position}
 use Rattle.pixels.specs.Entries.{onImage}
-use Rattle.pixels.specs.Lists.{oneIf, entered, entered-none, entered-more, entered-le, entered-few}
-use Rattle.pixels.specs.Post.{first, next}
+use Rattle.pixels.proofs.Lists.{entered-none, entered-more, entered-le, entered-few}
+use Rattle.pixels.specs.Post.{oneIf, entered, first, next}
 use Rattle.pixels.proofs.Walking.{first-is, next-is}
 
 -- p is position k, and n of the positions before are in the image
@@ -33,8 +33,8 @@ module _ {w h : ℕ} {a b : Axis} {p : Vec2} {n k : ℕ} (g : Counting w h a b p
         ∙ sym (entered-more w h a b k) ∙ ap (λ (i : ℕ). length (entered w h a b i)) (sym (add-one k));
   }
 
-  -- no more than among the first `last`
-  pub counting-le : (last : ℕ) → k ≤ last → n ≤ length (entered w h a b last)
-  counting-le last going =
-      let e : k + (last - k) ≡ last = omega arith in
-      omega (arith, g .count, entered-le w h a b k (last - k), ap (λ (i : ℕ). length (entered w h a b i)) e)
+  -- no more than among the first `steps`
+  pub counting-le : (steps : ℕ) → k ≤ steps → n ≤ length (entered w h a b steps)
+  counting-le steps going =
+      let e : k + (steps - k) ≡ steps = omega arith in
+      omega (arith, g .count, entered-le w h a b k (steps - k), ap (λ (i : ℕ). length (entered w h a b i)) e)

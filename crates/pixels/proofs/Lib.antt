@@ -1,3 +1,7 @@
+pub mod Outside
+pub mod Stops
+pub mod Accepted
+pub mod Lists
 pub mod Casts
 pub mod Walking
 pub mod Counting

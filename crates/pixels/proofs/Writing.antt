@@ -11,74 +11,72 @@ use lib.Seq.{drop-cons, set-at, append-snoc}
 use Rattle.types.specs.declared.shape.Vec2.{Vec2}
 use Rattle.pixels.specs.declared.axis.Axis.{Axis}
 use Rattle.pixels.specs.declared.walk.Reached.{Reached}
-use Rattle.pixels.specs.Size.{Size, size-wider}
-use Rattle.pixels.specs.Walk.{at, position}
+use Rattle.rounded.specs.Size.{Size}
+use Rattle.rounded.proofs.Sizes.{size-wider}
+use Rattle.lists.specs.Lent.{written}
+use Rattle.lists.proofs.Fill.{store-next}
+use Rattle.pixels.specs.Walk.{at, position, mostSteps}
 use Rattle.pixels.specs.Entries.{onImage, number, keepIf}
-use Rattle.pixels.specs.Ends.{Sized, at-size}
-use Rattle.pixels.specs.Lists.{oneIf, setIf, entered, entered-none, entered-suc, entered-more, entered-le}
-use Rattle.pixels.specs.Post.{first, next, Drawn, Bounded, Entered, closed, Written}
+use Rattle.pixels.proofs.Outside.{at-size}
+use Rattle.pixels.proofs.Lists.{entered-none, entered-suc, entered-more, entered-le}
+use Rattle.pixels.specs.Post.{Sized, oneIf, setIf, entered, first, next, Drawn, Bounded, Entered, closed, Closed}
 use Rattle.pixels.proofs.Counting.{Counting, counting-none, counting-le, counting-more}
 
 -- a position of an accepted walk
-at-bounded : {a : Axis} → Sized a → (k : ℕ) → k ≤ 131074 → Size 196610 (at a k)
+at-bounded : {a : Axis} → Sized a → (k : ℕ) → k ≤ mostSteps → Size 196610 (at a k)
 at-bounded {a} s k m = size-wider (65536 + k) 196610 (at a k) (omega arith) (at-size s k (omega arith))
 
-pub position-bounded : {w h : ℕ} {a b : Axis} → Drawn w h a b → (k : ℕ) → k ≤ 131074 → (p : Vec2) → p ≡ position a b k → Bounded p
+pub position-bounded : {w h : ℕ} {a b : Axis} → Drawn w h a b → (k : ℕ) → k ≤ mostSteps → (p : Vec2) → p ≡ position a b k → Bounded p
 position-bounded {a = a} {b} d k m p e = record {
   x-size = subst (λ (q : Vec2). Size 196610 (q .x)) (sym e) (at-bounded (d .along-x) k m);
   y-size = subst (λ (q : Vec2). Size 196610 (q .y)) (sym e) (at-bounded (d .along-y) k m);
 }
 
--- a store after what is written
-store-at : (E l : List ℕ) (n v : ℕ) → n ≡ length E → n < length l → set (E ++ drop n l) n v ≡ (E ++ (v ∷ [])) ++ drop (suc n) l
-store-at E l n v e h =
-    ap (λ (t : List ℕ). set (E ++ t) n v) (drop-cons l n 0 h) ∙ set-at E (getD l n 0) (drop (suc n) l) v n (sym e) ∙ sym (append-snoc E v (drop (suc n) l))
-
--- k is at most `last`, and n entries of the positions before k stand in `list`, which was l
-pub record Writing (w h : ℕ) (a b : Axis) (last : ℕ) (l list : List ℕ) (p : Vec2) (n k : ℕ) : Type 0 where
+-- k is at most `steps`, and n entries of the positions before k stand in `list`, which was l
+pub record Writing (w h : ℕ) (a b : Axis) (steps : ℕ) (l list : List ℕ) (p : Vec2) (n k : ℕ) : Type 0 where
   pub counting : Counting w h a b p n k
-  pub going : k ≤ last
-  pub written : list ≡ entered w h a b k ++ drop n l
+  pub going : k ≤ steps
+  pub entries : list ≡ entered w h a b k ++ drop n l
 
-pub writing-none : (w h : ℕ) (a b : Axis) (last : ℕ) (l : List ℕ) (p : Vec2) → p ≡ first a b → Writing w h a b last l l p 0 0
-writing-none w h a b last l p e = record {
+pub writing-none : (w h : ℕ) (a b : Axis) (steps : ℕ) (l : List ℕ) (p : Vec2) → p ≡ first a b → Writing w h a b steps l l p 0 0
+writing-none w h a b steps l p e = record {
   counting = counting-none w h a b p e;
   going = omega arith;
-  written = sym (ap (λ (t : List ℕ). t ++ l) (entered-none w h a b));
+  entries = sym (ap (λ (t : List ℕ). t ++ l) (entered-none w h a b));
 }
 
-module _ {w h : ℕ} {a b : Axis} {last : ℕ} {l list : List ℕ} {p : Vec2} {n k : ℕ} (g : Writing w h a b last l list p n k)
-    (room : length (entered w h a b last) ≤ length l) where
+module _ {w h : ℕ} {a b : Axis} {steps : ℕ} {l list : List ℕ} {p : Vec2} {n k : ℕ} (g : Writing w h a b steps l list p n k)
+    (room : length (entered w h a b steps) ≤ length l) where
   pub writing-length : length list ≡ length l
   writing-length =
-      ap length (g .written) ∙ length-append (entered w h a b k) (drop n l)
-      ∙ omega (arith, counting-le (g .counting) last (g .going), room, g .counting .count, length-drop n l)
+      ap length (g .entries) ∙ length-append (entered w h a b k) (drop n l)
+      ∙ omega (arith, counting-le (g .counting) steps (g .going), room, g .counting .count, length-drop n l)
 
-  -- position k is one of the first `last`: there is room for its entry
-  left : k < last → onImage w h p ≡ true → n < length l
+  -- position k is one of the first `steps`: there is room for its entry
+  left : k < steps → onImage w h p ≡ true → n < length l
   left less on =
-      let e : suc k + (last - suc k) ≡ last = omega arith in
+      let e : suc k + (steps - suc k) ≡ steps = omega arith in
       omega (
         arith,
         room,
         g .counting .count,
-        entered-le w h a b (suc k) (last - suc k),
+        entered-le w h a b (suc k) (steps - suc k),
         ap (λ (i : ℕ). length (entered w h a b i)) e,
         entered-more w h a b k,
         ap (λ (q : Vec2). oneIf (onImage w h q)) (g .counting .position-is),
         ap oneIf on,
       )
 
-  pub writing-in : k < last → onImage w h p ≡ true → n < length list
+  pub writing-in : k < steps → onImage w h p ≡ true → n < length list
   writing-in less on = omega (arith, writing-length, left less on)
 
-  pub writing-more : k < last → (q : Vec2) → q ≡ next a b p → (m : ℕ) → m ≡ n + oneIf (onImage w h p)
-      → (list' : List ℕ) → list' ≡ setIf (onImage w h p) list n (number w p) → Writing w h a b last l list' q m (k + 1)
+  pub writing-more : k < steps → (q : Vec2) → q ≡ next a b p → (m : ℕ) → m ≡ n + oneIf (onImage w h p)
+      → (list' : List ℕ) → list' ≡ setIf (onImage w h p) list n (number w p) → Writing w h a b steps l list' q m (k + 1)
   writing-more less q e m f list' s = record {
     counting = counting-more (g .counting) q e m f;
     going = omega arith;
-    written =
-        s ∙ ap (λ (t : List ℕ). setIf (onImage w h p) t n (number w p)) (g .written) ∙ go (onImage w h p) refl
+    entries =
+        s ∙ ap (λ (t : List ℕ). setIf (onImage w h p) t n (number w p)) (g .entries) ∙ go (onImage w h p) refl
         ∙ ap (λ (i : ℕ). (E ++ keepIf (onImage w h p) (number w p) []) ++ drop i l) (sym f)
         ∙ ap (λ (r : Vec2). (E ++ keepIf (onImage w h r) (number w r) []) ++ drop m l) (g .counting .position-is)
         ∙ ap (λ (t : List ℕ). t ++ drop m l) (sym (entered-suc w h a b k) ∙ ap (entered w h a b) (sym (add-one k)));
@@ -88,17 +86,18 @@ module _ {w h : ℕ} {a b : Axis} {last : ℕ} {l list : List ℕ} {p : Vec2} {n
       E = entered w h a b k
 
       go : (t : Bool) → onImage w h p ≡ t → setIf t (E ++ drop n l) n (number w p) ≡ (E ++ keepIf t (number w p) []) ++ drop (n + oneIf t) l
-      go true on = store-at E l n (number w p) (g .counting .count) (left less on) ∙ ap (λ (i : ℕ). (E ++ (number w p ∷ [])) ++ drop i l) (sym (add-one n))
+      go true on = store-next 0 E l n (number w p) (sym (g .counting .count)) (left less on) ∙ ap (λ (i : ℕ). (E ++ (number w p ∷ [])) ++ drop i l) (sym (add-one n))
       go false on = ap (λ (i : ℕ). E ++ drop i l) (sym (add-zero n)) ∙ ap (λ (t : List ℕ). t ++ drop (n + 0) l) (sym (append-nil E))
 
-  pub writing-end : last ≤ k → (r : Reached) → r .count ≡ n → r .position ≡ p → Entered w h a b last r l list
+  pub writing-end : steps ≤ k → (r : Reached) → r .count ≡ n → r .position ≡ p → Entered w h a b steps r l list
+  unfolding written
   writing-end out r c i =
-      let s : k ≡ last = omega (arith, g .going) in
+      let s : k ≡ steps = omega (arith, g .going) in
       record {
         position-is = i ∙ g .counting .position-is ∙ ap (position a b) s;
         count-is = c ∙ g .counting .count ∙ ap (λ (m : ℕ). length (entered w h a b m)) s;
         list-is =
-            g .written ∙ ap (λ (m : ℕ). entered w h a b k ++ drop m l) (g .counting .count)
+            g .entries ∙ ap (λ (m : ℕ). entered w h a b k ++ drop m l) (g .counting .count)
             ∙ ap (λ (m : ℕ). entered w h a b m ++ drop (length (entered w h a b m)) l) s;
       }
 
@@ -113,7 +112,8 @@ pub closing :
     length (entered w h a b k) < length l →
     (v : ℕ) →
     v ≡ number w (r .position) →
-    Written w h a b k (r .count + 1) l (set list (r .count) v)
+    Closed w h a b k (r .count + 1) l (set list (r .count) v)
+unfolding written
 closing {w} {h} {a} {b} {k} {r} {l} {list} g room v e =
     let E = entered w h a b k in
     let c = closed-length w h a b k in
@@ -121,7 +121,7 @@ closing {w} {h} {a} {b} {k} {r} {l} {list} g room v e =
       count-is = ap (λ (i : ℕ). i + 1) (g .count-is) ∙ sym c;
       list-is =
           ap (λ (t : List ℕ). set t (r .count) v) (g .list-is) ∙ ap (λ (i : ℕ). set (E ++ drop (length E) l) i v) (g .count-is)
-          ∙ store-at E l (length E) v refl room
+          ∙ store-next 0 E l (length E) v refl room
           ∙ ap (λ (i : ℕ). (E ++ (i ∷ [])) ++ drop (suc (length E)) l) (e ∙ ap (number w) (g .position-is))
           ∙ ap (λ (i : ℕ). closed w h a b k ++ drop i l) (sym (c ∙ add-one (length E)));
     }

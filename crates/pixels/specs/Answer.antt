@@ -1,14 +1,14 @@
--- What `overlapping_pixels_dda` answers, document 01's refusals among it, and what it leaves in the lent list. Definitions only.
-use mathlib.Core.Bool.{Bool, cond, not, _&&_, _||_}
-use mathlib.Core.List.{List, _++_}
-use Prim.Native.Nat.{ℕ}
+-- What `overlapping_pixels_dda` answers, document 01's refusals among it. Definitions only.
+use mathlib.Core.Bool.{Bool, cond, _&&_, _||_}
+use mathlib.Core.List.{List, [], _∷_}
+use Prim.Native.Nat.{ℕ, suc}
 use lib.Dec.{ltb}
-use lib.ListN.{length, drop}
 use lib.Ieee.{Float, binary32, ofBits, le, eq}
 use Rattle.types.specs.declared.shape.Vec2.{Vec2}
 use Rattle.types.specs.declared.answer.Listed.{Listed}
-use Rattle.types.specs.declared.answer.Listed.the-variants.{Count, Refused}
+use Rattle.types.specs.declared.answer.Listed.the-variants.{Refused}
 use Rattle.float.specs.Values.{absOf}
+use Rattle.lists.specs.Lent.{fitted}
 use Rattle.pixels.specs.Entries.{strokeOf}
 
 -- an image side above 16,384
@@ -23,27 +23,21 @@ limit = ofBits binary32 0x4780_0000
 unfoldable pub withinLimit : Float → Bool
 withinLimit x = le (absOf x) limit
 
-unfoldable pub pointFits : Vec2 → Bool
-pointFits p = withinLimit (p .x) && withinLimit (p .y)
+-- the place of the first coordinate that is not within the limit, from 0 on, and the list's length if there is none
+unfoldable pub firstOffender : List Float → ℕ
+firstOffender [] = 0
+firstOffender (x ∷ xs) = cond (withinLimit x) (suc (firstOffender xs)) 0
 
-unfoldable pub endsFit : Vec2 → Vec2 → Bool
-endsFit p q = pointFits p && pointFits q
+-- in the order of the arguments
+abbrev pub coordinates : Vec2 → Vec2 → List Float
+coordinates p q = p .x ∷ p .y ∷ q .x ∷ q .y ∷ []
 
 -- equal as numbers: +0 equals -0
 unfoldable pub sameEnds : Vec2 → Vec2 → Bool
 sameEnds p q = eq (p .x) (q .x) && eq (p .y) (q .y)
 
--- the number of the entries es, refused where a list of this length is too short for them
-unfoldable pub fitted : List ℕ → ℕ → Listed
-fitted es room = cond (ltb room (length es)) (Refused 1) (Count (length es))
-
 -- the refusals in their order, and else the number of the stroke's entries
 unfoldable pub overlappingPixelsDdaOf : ℕ → ℕ → Vec2 → Vec2 → ℕ → Listed
 overlappingPixelsDdaOf w h p q room =
     cond (sidesTooLarge w h) (Refused 4)
-    (cond (not (endsFit p q)) (Refused 3) (cond (sameEnds p q) (Refused 2) (fitted (strokeOf w h p q) room)))
-
--- the lent list l after the answer: untouched on a refusal, else the entries es first, and beyond them untouched
-unfoldable pub written : Listed → List ℕ → List ℕ → List ℕ
-written (Refused n) es l = l
-written (Count n) es l = es ++ drop (length es) l
+    (cond (ltb (firstOffender (coordinates p q)) 4) (Refused 3) (cond (sameEnds p q) (Refused 2) (fitted (strokeOf w h p q) room)))

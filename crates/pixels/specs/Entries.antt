@@ -1,6 +1,6 @@
 -- The entries of a stroke: the positions inside the image, numbered, and the closing entry. Definitions only.
 use mathlib.Core.Bool.{Bool, true, false, _&&_}
-use mathlib.Core.List.{List, [], _∷_, _++_}
+use mathlib.Core.List.{List, [], _∷_, _++_, map}
 use Prim.Native.Nat.{ℕ, _+_, _*_}
 use lib.IntN.{pos}
 use lib.Ieee.{Float, binary32, lt, le, ofInt, toUnsigned}
@@ -37,13 +37,9 @@ unfoldable pub kept : {A : Type 0} → (A → Bool) → List A → List A
 kept t [] = []
 kept t (x ∷ l) = keepIf (t x) x (kept t l)
 
-unfoldable pub each : {A B : Type 0} → (A → B) → List A → List B
-each f [] = []
-each f (x ∷ l) = f x ∷ each f l
-
 -- the pixels of those positions that lie in the image, in the walk's order
 unfoldable pub pixels : ℕ → ℕ → List Vec2 → List ℕ
-pixels w h ps = each (number w) (kept (onImage w h) ps)
+pixels w h ps = map (number w) (kept (onImage w h) ps)
 
 -- and last the closing entry, of the position at which the walk left; it may be no pixel of the image
 unfoldable pub entries : ℕ → ℕ → Axis → Axis → List ℕ

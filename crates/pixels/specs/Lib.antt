@@ -1,13 +1,5 @@
 pub mod Walk
+pub mod Stops
 pub mod Entries
 pub mod Answer
-pub mod Round
-pub mod Size
-pub mod Step
-pub mod Leaves
-pub mod Ends
-pub mod Apart
-pub mod Slopes
-pub mod Accepted
-pub mod Lists
 pub mod Post

@@ -1,19 +1,20 @@
 -- What the functions of the walk ask of each other and hand on. Definitions only.
 use mathlib.Core.Path.{_≡_}
+use mathlib.Core.Bool.{Bool, true, false, _&&_}
 use mathlib.Core.List.{List, [], _∷_, _++_}
 use Prim.Native.Nat.{ℕ, _≤_}
 use lib.Dec.{ltb}
-use lib.ListN.{length, drop}
+use lib.ListN.{length, set}
 use Rattle.types.specs.declared.shape.Vec2.{Vec2}
 use Rattle.float.specs.Rounded.{_⊕_}
+use Rattle.lists.specs.Lent.{written}
+use Rattle.lists.specs.Places.{upto}
+use Rattle.rounded.specs.Size.{Size}
 use Rattle.pixels.specs.declared.axis.Axis.{Axis}
-use Rattle.pixels.specs.declared.walk.Extent.{Extent}
+use Rattle.pixels.specs.declared.walk.Measured.{Measured}
 use Rattle.pixels.specs.declared.walk.Reached.{Reached}
-use Rattle.pixels.specs.Walk.{position, exit}
-use Rattle.pixels.specs.Entries.{number}
-use Rattle.pixels.specs.Size.{Size}
-use Rattle.pixels.specs.Ends.{Sized}
-use Rattle.pixels.specs.Lists.{entered}
+use Rattle.pixels.specs.Walk.{position, inRanges, mostSteps, exit}
+use Rattle.pixels.specs.Entries.{number, pixels}
 
 -- ---- positions
 
@@ -24,7 +25,18 @@ first a b = record { x = a .start; y = b .start }
 abbrev pub next : Axis → Axis → Vec2 → Vec2
 next a b p = record { x = p .x ⊕ a .slope; y = p .y ⊕ b .slope }
 
+-- after k steps the walk is at p: whether it takes another
+unfoldable pub stepsOn : Axis → Axis → Vec2 → ℕ → Bool
+stepsOn a b p k = ltb k mostSteps && inRanges a b p
+
 -- ---- what is asked
+
+-- an axis of an accepted stroke: it starts at a coordinate of at most 65,536 in size, and steps by one at most
+pub record Sized (a : Axis) : Type 0 where
+  pub start-size : Size 65536 (a .start)
+  pub slope-size : Size 1 (a .slope)
+  pub low-size : Size 65537 (a .low)
+  pub high-size : Size 65537 (a .high)
 
 -- an image and two axes as an accepted stroke has them
 pub record Drawn (w h : ℕ) (a b : Axis) : Type 0 where
@@ -33,30 +45,43 @@ pub record Drawn (w h : ℕ) (a b : Axis) : Type 0 where
   pub along-x : Sized a
   pub along-y : Sized b
 
--- a position of an accepted walk: at most 65,536 and 131,074 steps of at most one
+-- a position of an accepted walk: 65,536 and 131,074 steps of one at most
 pub record Bounded (p : Vec2) : Type 0 where
   pub x-size : Size 196610 (p .x)
   pub y-size : Size 196610 (p .y)
 
 -- ---- what is handed on
 
--- where the walk leaves, and whether a list of this length takes its entries and a closing one
-pub record Extends (w h : ℕ) (a b : Axis) (room : ℕ) (r : Extent) : Type 0 where
-  pub last-is : r .last ≡ exit a b
-  pub last-le : r .last ≤ 131074
-  pub fits-is : r .fits ≡ ltb (length (entered w h a b (r .last))) room
+-- how many a test lets in
+abbrev pub oneIf : Bool → ℕ
+oneIf true = 1
+oneIf false = 0
 
--- the list l was lent, and is l' afterwards:
--- with the entries of the first k positions
-pub record Entered (w h : ℕ) (a b : Axis) (k : ℕ) (r : Reached) (l l' : List ℕ) : Type 0 where
-  pub position-is : r .position ≡ position a b k
-  pub count-is : r .count ≡ length (entered w h a b k)
-  pub list-is : l' ≡ entered w h a b k ++ drop (length (entered w h a b k)) l
+-- a store that a test lets through
+abbrev pub setIf : Bool → List ℕ → ℕ → ℕ → List ℕ
+setIf true l n v = set l n v
+setIf false l n v = l
 
--- and with a closing one
+-- the entries of the first k positions
+abbrev pub entered : ℕ → ℕ → Axis → Axis → ℕ → List ℕ
+entered w h a b k = pixels w h (upto (position a b) k)
+
+-- and the closing entry, of position k
 abbrev pub closed : ℕ → ℕ → Axis → Axis → ℕ → List ℕ
 closed w h a b k = entered w h a b k ++ (number w (position a b k) ∷ [])
 
-pub record Written (w h : ℕ) (a b : Axis) (k r : ℕ) (l l' : List ℕ) : Type 0 where
+-- how many steps the walk takes, and whether a list of this length takes its entries and a closing one
+pub record Measures (w h : ℕ) (a b : Axis) (room : ℕ) (r : Measured) : Type 0 where
+  pub steps-is : r .steps ≡ exit a b
+  pub fits-is : r .fits ≡ ltb (length (entered w h a b (r .steps))) room
+
+-- the list l was lent, and is l' afterwards: with the entries of the first k positions
+pub record Entered (w h : ℕ) (a b : Axis) (k : ℕ) (r : Reached) (l l' : List ℕ) : Type 0 where
+  pub position-is : r .position ≡ position a b k
+  pub count-is : r .count ≡ length (entered w h a b k)
+  pub list-is : l' ≡ written (entered w h a b k) l
+
+-- and with the closing entry
+pub record Closed (w h : ℕ) (a b : Axis) (k r : ℕ) (l l' : List ℕ) : Type 0 where
   pub count-is : r ≡ length (closed w h a b k)
-  pub list-is : l' ≡ closed w h a b k ++ drop (length (closed w h a b k)) l
+  pub list-is : l' ≡ written (closed w h a b k) l

@@ -1,11 +1,12 @@
 -- The walk of a stroke, in document 01's words: one coordinate at a time, then the positions. Definitions only.
 use mathlib.Core.Bool.{Bool, true, false, not, _&&_, _||_}
-use mathlib.Core.List.{List, [], _∷_, _++_}
+use mathlib.Core.List.{List}
 use Prim.Native.Nat.{ℕ, zero, suc}
 use lib.Ieee.{Float, lt}
 use Rattle.types.specs.declared.shape.Vec2.{Vec2}
 use Rattle.float.specs.Rounded.{_⊕_, _⊖_, _⊘_, epsilon}
 use Rattle.float.specs.Values.{absOf, minOf, maxOf}
+use Rattle.lists.specs.Places.{upto}
 use Rattle.pixels.specs.declared.axis.Axis.{Axis}
 
 -- ---- one coordinate
@@ -46,24 +47,18 @@ goesOn a b k = inRanges a b (position a b k)
 
 -- The first of k, k + 1, .. at which the walk does not go on, and k + n if it goes on at all before. t says whether it goes on at k:
 -- as an argument, so that this computes no further than the walk goes.
-unfoldable pub leaves : Axis → Axis → ℕ → Bool → ℕ → ℕ
-leaves a b zero t k = k
-leaves a b (suc n) false k = k
-leaves a b (suc n) true k = leaves a b n (goesOn a b (suc k)) (suc k)
+unfoldable pub firstOutside : Axis → Axis → ℕ → Bool → ℕ → ℕ
+firstOutside a b zero t k = k
+firstOutside a b (suc n) false k = k
+firstOutside a b (suc n) true k = firstOutside a b n (goesOn a b (suc k)) (suc k)
 
--- More steps than an accepted walk takes; any greater number finds the same. These are `stroke-leaves` and `stroke-any-fuel` of
--- specs/Accepted.antt.
-abbrev pub fuel : ℕ
-fuel = 262144
+-- A walk goes no further than this. No accepted stroke's walk goes so far without leaving its ranges: specs/Stops.antt.
+abbrev pub mostSteps : ℕ
+mostSteps = 131074
 
 -- where the walk leaves the ends' ranges: the number of its first position outside
 unfoldable pub exit : Axis → Axis → ℕ
-exit a b = leaves a b fuel (goesOn a b 0) 0
-
--- f 0, f 1, .. f (n - 1)
-unfoldable pub upto : {A : Type 0} → (ℕ → A) → ℕ → List A
-upto f zero = []
-upto f (suc n) = upto f n ++ (f n ∷ [])
+exit a b = firstOutside a b mostSteps (goesOn a b 0) 0
 
 -- the positions before it leaves, in the walk's order
 unfoldable pub positions : Axis → Axis → List Vec2

@@ -1,7 +1,7 @@
 // What is tested before a stroke is walked.
 use types::Vec2;
 ghost use mathlib.Core.Path.{_≡_};
-ghost use Rattle.pixels.specs.Answer.{sidesTooLarge, withinLimit, pointFits, endsFit, sameEnds};
+ghost use Rattle.pixels.specs.Answer.{sidesTooLarge, withinLimit, firstOffender, coordinates, sameEnds};
 
 // A side above 16,384.
 pub(crate) fn sides_too_large(width: usize, height: usize) -> bool
@@ -20,22 +20,23 @@ fn within_limit(x: f32) -> bool
     float::abs(x) <= 65536.0
 }
 
-fn point_fits(p: Vec2) -> bool
-    ensures { λ r. ⌜ r ≡ pointFits p ⌝ }
+// The place of the first coordinate beyond the limit, from 0 on in the order x0, y0, x1, y1, and 4 if there is none.
+pub(crate) fn first_offender(p0: Vec2, p1: Vec2) -> usize
+    ensures { λ r. ⌜ r ≡ firstOffender (coordinates p0 p1) ⌝ }
 {
-    if within_limit(p.x) {
-        return within_limit(p.y);
+    if !within_limit(p0.x) {
+        return 0;
     }
-    false
-}
-
-pub(crate) fn ends_fit(p0: Vec2, p1: Vec2) -> bool
-    ensures { λ r. ⌜ r ≡ endsFit p0 p1 ⌝ }
-{
-    if point_fits(p0) {
-        return point_fits(p1);
+    if !within_limit(p0.y) {
+        return 1;
     }
-    false
+    if !within_limit(p1.x) {
+        return 2;
+    }
+    if !within_limit(p1.y) {
+        return 3;
+    }
+    4
 }
 
 // Equal as numbers: +0 equals -0.

@@ -3,8 +3,8 @@ use types::Vec2;
 ghost use mathlib.Core.Path.{_≡_};
 ghost use Prim.Native.Nat.{_≤_};
 ghost use lib.Ieee.{toUnsigned};
-ghost use Rattle.pixels.specs.Size.{Size};
 ghost use Rattle.pixels.specs.Entries.{onSide, inSides, number};
+ghost use Rattle.rounded.specs.Size.{Size};
 ghost use Rattle.pixels.specs.Post.{Bounded};
 
 // At least 0 and below the side.

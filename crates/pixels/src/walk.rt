@@ -5,7 +5,7 @@ use crate::axis::first;
 use crate::axis::in_ranges;
 use crate::axis::next;
 use crate::axis::step_of;
-use crate::check::ends_fit;
+use crate::check::first_offender;
 use crate::check::same_ends;
 use crate::check::sides_too_large;
 use crate::image::cut;
@@ -15,14 +15,15 @@ use types::Listed;
 use types::Vec2;
 ghost use mathlib.Core.Path.{_≡_};
 ghost use mathlib.Core.Bool.{true};
-ghost use Prim.Native.Nat.{_+_, _≤_, _<_};
+ghost use Prim.Native.Nat.{ℕ, _+_, _≤_, _<_};
 ghost use lib.ListN.{length};
-ghost use Rattle.pixels.specs.Walk.{exit};
+ghost use Rattle.types.specs.declared.answer.Listed.the-variants.{Count};
+ghost use Rattle.lists.specs.Lent.{fitted, leaves};
+ghost use Rattle.pixels.specs.Walk.{mostSteps, exit, alongX, alongY};
+ghost use Rattle.pixels.specs.Stops.{Stops};
 ghost use Rattle.pixels.specs.Entries.{inSides, number, entries, strokeOf};
-ghost use Rattle.pixels.specs.Answer.{fitted, overlappingPixelsDdaOf, written};
-ghost use Rattle.pixels.specs.Leaves.{Ends};
-ghost use Rattle.pixels.specs.Lists.{oneIf, setIf, entered};
-ghost use Rattle.pixels.specs.Post.{Drawn, Bounded, Extends, Entered, Written};
+ghost use Rattle.pixels.specs.Answer.{overlappingPixelsDdaOf};
+ghost use Rattle.pixels.specs.Post.{stepsOn, Drawn, Bounded, oneIf, setIf, entered, Measures, Entered, Closed};
 
 fn one_if(t: bool) -> usize
     ensures { λ r. ⌜ r ≡ oneIf t ⌝ }
@@ -30,14 +31,24 @@ fn one_if(t: bool) -> usize
     if t { 1 } else { 0 }
 }
 
+// Whether the walk takes a step from p, having taken k. No accepted walk takes more than 131,074, so the first test decides nothing where
+// arithmetic is IEEE 754's. On a processor set to flush subnormals a slope may be 0 / 0, and then it is what ends the walk.
+fn steps_on(a: Axis, b: Axis, p: Vec2, k: usize) -> bool
+    ensures { λ r. ⌜ r ≡ stepsOn a b p k ⌝ }
+{
+    if k < 131074 {
+        return in_ranges(a, b, p);
+    }
+    false
+}
+
 // How many steps the walk takes until it leaves the ends' ranges.
 fn exit_of(a: Axis, b: Axis) -> usize
-    requires { ⌜ Ends a b ⌝ }
-    ensures { λ r. ⌜ (r ≡ exit a b) × (r ≤ 131074) ⌝ }
+    ensures { λ r. ⌜ r ≡ exit a b ⌝ }
 {
     let mut p = first(a, b);
     let mut k = 0usize;
-    while in_ranges(a, b, p) {
+    while steps_on(a, b, p, k) {
         p = next(a, b, p);
         k += 1;
     }
@@ -45,45 +56,45 @@ fn exit_of(a: Axis, b: Axis) -> usize
 }
 
 // How many steps the walk takes, and whether a list has room for its entries and a closing one.
-struct Extent {
-    last: usize,
+struct Measured {
+    steps: usize,
     fits: bool,
 }
 
-// By a count of the positions in the image, made in the walk that finds where it ends, so that no other walk is needed for it.
-fn counted_extent(room: usize, width: usize, height: usize, a: Axis, b: Axis) -> Extent
-    requires { ⌜ (width ≤ 16384) × (height ≤ 16384) × Ends a b ⌝ }
-    ensures { λ r. ⌜ Extends width height a b room r ⌝ }
+// By a count of the positions in the image, made in the walk that finds its exit, so that no other walk is needed for it.
+fn measure_counting(room: usize, width: usize, height: usize, a: Axis, b: Axis) -> Measured
+    requires { ⌜ (width ≤ 16384) × (height ≤ 16384) ⌝ }
+    ensures { λ r. ⌜ Measures width height a b room r ⌝ }
 {
     let wide = width as f32;
     let high = height as f32;
     let mut p = first(a, b);
     let mut n = 0usize;
     let mut k = 0usize;
-    while in_ranges(a, b, p) {
+    while steps_on(a, b, p, k) {
         n += one_if(in_sides(wide, high, p));
         p = next(a, b, p);
         k += 1;
     }
-    Extent {
-        last: k,
+    Measured {
+        steps: k,
         fits: n < room,
     }
 }
 
 // Each position gives one entry at most, so a list that is longer than the walk needs no count, and a walk without one is quicker.
 // `guess`, how many steps are expected, decides only which of the two is tried first.
-fn extent_of(room: usize, guess: usize, width: usize, height: usize, a: Axis, b: Axis) -> Extent
-    requires { ⌜ (width ≤ 16384) × (height ≤ 16384) × Ends a b ⌝ }
-    ensures { λ r. ⌜ Extends width height a b room r ⌝ }
+fn measure(room: usize, guess: usize, width: usize, height: usize, a: Axis, b: Axis) -> Measured
+    requires { ⌜ (width ≤ 16384) × (height ≤ 16384) ⌝ }
+    ensures { λ r. ⌜ Measures width height a b room r ⌝ }
 {
     if guess < room {
-        let last = exit_of(a, b);
-        if last < room {
-            return Extent { last, fits: true };
+        let steps = exit_of(a, b);
+        if steps < room {
+            return Measured { steps, fits: true };
         }
     }
-    counted_extent(room, width, height, a, b)
+    measure_counting(room, width, height, a, b)
 }
 
 // Enters the pixel of p at n if p is in the image, and answers the place of the next entry.
@@ -105,24 +116,24 @@ struct Reached {
     position: Vec2,
 }
 
-// The entries of the first `last` positions.
+// The entries of the first `steps` positions.
 fn enter_all(
     list: &mut [u32],
     width: usize,
     height: usize,
     a: Axis,
     b: Axis,
-    last: usize,
+    steps: usize,
 ) -> Reached
-    requires { ⌜ Drawn width height a b × (last ≤ 131074) × (length (entered width height a b last) ≤ length (now list)) ⌝ }
-    ensures { λ r. ⌜ Entered width height a b last r (now (list .entry)) (now (list .exit)) ⌝ }
+    requires { ⌜ Drawn width height a b × (steps ≤ mostSteps) × (length (entered width height a b steps) ≤ length (now list)) ⌝ }
+    ensures { λ r. ⌜ Entered width height a b steps r (now (list .entry)) (now (list .exit)) ⌝ }
 {
     let wide = width as f32;
     let high = height as f32;
     let mut p = first(a, b);
     let mut n = 0usize;
     let mut k = 0usize;
-    while k < last {
+    while k < steps {
         n = enter(list, n, width, wide, high, p);
         p = next(a, b, p);
         k += 1;
@@ -134,11 +145,11 @@ fn enter_all(
 }
 
 // Those entries, and the closing entry of the position after them. It answers how many there are.
-fn write(list: &mut [u32], width: usize, height: usize, a: Axis, b: Axis, last: usize) -> usize
-    requires { ⌜ Drawn width height a b × (last ≤ 131074) × (length (entered width height a b last) < length (now list)) ⌝ }
-    ensures { λ r. ⌜ Written width height a b last r (now (list .entry)) (now (list .exit)) ⌝ }
+fn write(list: &mut [u32], width: usize, height: usize, a: Axis, b: Axis, steps: usize) -> usize
+    requires { ⌜ Drawn width height a b × (steps ≤ mostSteps) × (length (entered width height a b steps) < length (now list)) ⌝ }
+    ensures { λ r. ⌜ Closed width height a b steps r (now (list .entry)) (now (list .exit)) ⌝ }
 {
-    let r = enter_all(list, width, height, a, b, last);
+    let r = enter_all(list, width, height, a, b, steps);
     let n = r.count;
     list[n] = pixel(width, r.position);
     n + 1
@@ -146,13 +157,13 @@ fn write(list: &mut [u32], width: usize, height: usize, a: Axis, b: Axis, last: 
 
 // The entries of the walk, if the list has room for them.
 fn fill(list: &mut [u32], guess: usize, width: usize, height: usize, a: Axis, b: Axis) -> Listed
-    requires { ⌜ Drawn width height a b × Ends a b ⌝ }
+    requires { ⌜ Drawn width height a b ⌝ }
     ensures { λ r. ⌜ (r ≡ fitted (entries width height a b) (length (now (list .entry))))
-        × (now (list .exit) ≡ written r (entries width height a b) (now (list .entry))) ⌝ }
+        × (now (list .exit) ≡ leaves r (entries width height a b) (now (list .entry))) ⌝ }
 {
-    let e = extent_of(list.len(), guess, width, height, a, b);
-    if e.fits {
-        return Listed::Count(write(list, width, height, a, b, e.last));
+    let m = measure(list.len(), guess, width, height, a, b);
+    if m.fits {
+        return Listed::Count(write(list, width, height, a, b, m.steps));
     }
     Listed::Refused(types::refusal::ROOM)
 }
@@ -166,13 +177,14 @@ pub fn overlapping_pixels_dda(
     p1: Vec2,
     list: &mut [u32],
 ) -> Listed
-    ensures { λ r. ⌜ (r ≡ overlappingPixelsDdaOf width height p0 p1 (length (now (list .entry))))
-        × (now (list .exit) ≡ written r (strokeOf width height p0 p1) (now (list .entry))) ⌝ }
+    ensures answers { λ r. ⌜ r ≡ overlappingPixelsDdaOf width height p0 p1 (length (now (list .entry))) ⌝ }
+    ensures leaves { λ r. ⌜ now (list .exit) ≡ leaves r (strokeOf width height p0 p1) (now (list .entry)) ⌝ }
+    ensures stops { λ r. ⌜ ((n : ℕ) → r ≡ Count n → Stops (alongX p0 p1) (alongY p0 p1)) ⌝ }
 {
     if sides_too_large(width, height) {
         return Listed::Refused(types::refusal::SIZE);
     }
-    if !ends_fit(p0, p1) {
+    if first_offender(p0, p1) < 4 {
         return Listed::Refused(types::refusal::COORDINATE);
     }
     if same_ends(p0, p1) {

@@ -8,6 +8,7 @@ use lib.Signed.{leZ-yes}
 use Prim.Native.Nat.{ℕ}
 use lib.Ieee.{Float, binary32, fits, div, ofInt}
 use Rattle.types.specs.declared.shape.Aabb2.{Aabb2}
+use Rattle.lists.specs.Lent.{written}
 use Rattle.tiles.specs.Cover.{Premises, Smallest}
 use Rattle.tiles.specs.Tiles.{tilesOf}
 use Rattle.tiles.specs.Answer.{sheet}
@@ -35,5 +36,5 @@ premises = record {
 }
 
 pub example : Smallest (sheet 16 4 3) box1 6 (0 ∷ 1 ∷ 2 ∷ 4 ∷ 5 ∷ 6 ∷ [])
-unfolding tilesOf div ofInt
+unfolding written tilesOf div ofInt
 example = listed (sheet 16 4 3) box1 (9 ∷ 9 ∷ 9 ∷ 9 ∷ 9 ∷ 9 ∷ 9 ∷ 9 ∷ []) refl refl floats (lit≤ tt) .smallest 6 refl premises

@@ -8,6 +8,7 @@ use native.Mathlib.Omega.{arith}
 use lib.ListN.{length, drop}
 use Rattle.types.specs.declared.shape.Aabb2.{Aabb2}
 use Rattle.types.specs.declared.answer.Listed.the-variants.{Count, Refused}
+use Rattle.lists.specs.Lent.{written}
 use Rattle.tiles.specs.Sheet.{Sheet}
 use Rattle.tiles.specs.Tiles.{firstColumn, columnCount, firstRow, rowCount, rows, tilesOf}
 use Rattle.tiles.specs.Answer.{badSheet, badBox}
@@ -48,15 +49,16 @@ module _ {s : Sheet} {b : Aabb2} {c k r n : ℕ} (f : Found s b c k r n) where
     pub too-short : length l < n * k → Promise s b l (Refused 1) l
     too-short h = refused-room s b l (f .sheet-good) (f .box-good) (rw count-is h)
 
-    pub written : (l' : List ℕ) → Floats b → n * k ≤ length l → l' ≡ rows (s .width) c k r n ++ drop (n * k) l → Promise s b l (Count (n * k)) l'
-    written l' t h e = rw (e, rows-are, ← count-is) (listed s b l (f .sheet-good) (f .box-good) t (rw count-is h))
+    pub filled : (l' : List ℕ) → Floats b → n * k ≤ length l → l' ≡ rows (s .width) c k r n ++ drop (n * k) l → Promise s b l (Count (n * k)) l'
+    unfolding written
+    filled l' t h e = rw (e, rows-are, ← count-is) (listed s b l (f .sheet-good) (f .box-good) t (rw count-is h))
 
     -- with no tile there is nothing to write
     pub empty : Floats b → n * k ≡ 0 → Promise s b l (Count 0) l
     empty t z =
         let ts = rows (s .width) c k r n in
         let same : l ≡ ts ++ drop (n * k) l = nil ts (length-rows (s .width) c k r n ∙ z) ∙ ap (λ (x : ℕ). ts ++ drop x l) (sym z) in
-        subst (λ (x : ℕ). Promise s b l (Count x) l) z (written l t (omega arith) same)
+        subst (λ (x : ℕ). Promise s b l (Count x) l) z (filled l t (omega arith) same)
       where
         nil : (x : List ℕ) → length x ≡ 0 → l ≡ x ++ l
         nil [] e = refl

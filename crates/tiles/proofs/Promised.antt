@@ -12,10 +12,12 @@ use borrow.Author.Tests.{lt-ltb, le-ltb}
 use Rattle.types.specs.declared.shape.Aabb2.{Aabb2}
 use Rattle.types.specs.declared.answer.Listed.the-variants.{Count, Refused}
 use Rattle.float.specs.Units.{unitsOf}
+use Rattle.lists.specs.Lent.{written, fitted, leaves}
+use Rattle.lists.proofs.Lent.{no-count, same-count}
 use Rattle.tiles.specs.Sheet.{Sheet}
 use Rattle.tiles.specs.Cover.{NotTiny, Premises, Smallest}
 use Rattle.tiles.specs.Tiles.{tilesOf}
-use Rattle.tiles.specs.Answer.{badSheet, badBox, overlappingTilesOf, leftOf}
+use Rattle.tiles.specs.Answer.{badSheet, badBox, overlappingTilesOf}
 use Rattle.tiles.specs.Promise.{Promise}
 use Rattle.tiles.proofs.Accepted.{Taken, taken, sides, corners}
 use Rattle.tiles.proofs.Axis.{Axis}
@@ -28,25 +30,19 @@ pub record Floats (b : Aabb2) : Type 0 where
   pub max-x : fits binary32 (b .«max_x») ≡ true
   pub max-y : fits binary32 (b .«max_y») ≡ true
 
-no-count : (k n : ℕ) → Refused k ≡ Count n → ⊥
-no-count k n e = let z : _≡_ {A = ℕ} 0 1 = cc in omega arith
-
-same-count : (m n : ℕ) → Count m ≡ Count n → m ≡ n
-same-count m n e = cc
-
 module _ (s : Sheet) (b : Aabb2) (l : List ℕ) where
   pub refused-sheet : badSheet s ≡ true → Promise s b l (Refused 4) l
-  unfolding overlappingTilesOf leftOf
-  refused-sheet e = record { answers = simp e; leaves = refl; smallest = λ n z. absurd (no-count 4 n z) }
+  unfolding overlappingTilesOf leaves
+  refused-sheet e = record { answers = simp e; leaves = refl; smallest = λ n z. no-count 4 n z }
 
   pub refused-box : badSheet s ≡ false → badBox b ≡ true → Promise s b l (Refused 3) l
-  unfolding overlappingTilesOf leftOf
-  refused-box e f = record { answers = simp (e, f); leaves = refl; smallest = λ n z. absurd (no-count 3 n z) }
+  unfolding overlappingTilesOf leaves
+  refused-box e f = record { answers = simp (e, f); leaves = refl; smallest = λ n z. no-count 3 n z }
 
   module _ (e : badSheet s ≡ false) (f : badBox b ≡ false) where
     pub refused-room : length l < length (tilesOf s b) → Promise s b l (Refused 1) l
-    unfolding overlappingTilesOf leftOf
-    refused-room h = record { answers = simp (e, f, lt-ltb (length l) (length (tilesOf s b)) h); leaves = refl; smallest = λ n z. absurd (no-count 1 n z) }
+    unfolding overlappingTilesOf fitted written leaves
+    refused-room h = record { answers = simp (e, f, lt-ltb (length l) (length (tilesOf s b)) h); leaves = refl; smallest = λ n z. no-count 1 n z }
 
     axis : {low high : Float} → Taken low → Taken high → NotTiny low → NotTiny high → unitsOf low ≤ℤ unitsOf high → Axis (s .size) low high
     axis tl th zl zh o = record {
@@ -66,11 +62,11 @@ module _ (s : Sheet) (b : Aabb2) (l : List ℕ) where
         (axis (taken (b .«min_x») (t .min-x) (c .min-x)) (taken (b .«max_x») (t .max-x) (c .max-x)) (p .min-x-size) (p .max-x-size) (p .ordered-x))
         (axis (taken (b .«min_y») (t .min-y) (c .min-y)) (taken (b .«max_y») (t .max-y) (c .max-y)) (p .min-y-size) (p .max-y-size) (p .ordered-y))
 
-    pub listed : Floats b → length (tilesOf s b) ≤ length l → Promise s b l (Count (length (tilesOf s b))) (tilesOf s b ++ drop (length (tilesOf s b)) l)
-    unfolding overlappingTilesOf leftOf
+    pub listed : Floats b → length (tilesOf s b) ≤ length l → Promise s b l (Count (length (tilesOf s b))) (written (tilesOf s b) l)
+    unfolding overlappingTilesOf fitted written leaves
     listed t h =
         let ts = tilesOf s b in
-        let after = ts ++ drop (length ts) l in
+        let after = written ts l in
         let same : take (length ts) after ≡ ts = take-at ts (drop (length ts) l) (length ts) refl in
         record {
           answers = simp (e, f, le-ltb (length l) (length ts) h);

@@ -1,16 +1,15 @@
--- What `overlapping_tiles` returns, and what it leaves in the lent list. Quoted words are those of document 01's table of refusals.
+-- What `overlapping_tiles` returns. Quoted words are those of document 01's table of refusals.
 -- Definitions only.
 use mathlib.Core.Bool.{Bool, not, _||_, cond}
-use mathlib.Core.List.{List, _++_}
 use Prim.Native.Nat.{ℕ, _*_, _^_}
 use lib.Dec.{ltb, eqb}
-use lib.ListN.{length, drop}
 use lib.Ieee.{Float}
 use lib.Ieee.Scale.{finite}
 use Rattle.types.specs.declared.shape.Aabb2.{Aabb2}
 use Rattle.types.specs.declared.answer.Listed.{Listed}
-use Rattle.types.specs.declared.answer.Listed.the-variants.{Count, Refused}
+use Rattle.types.specs.declared.answer.Listed.the-variants.{Refused}
 use Rattle.float.specs.Units.{inUnits}
+use Rattle.lists.specs.Lent.{fitted}
 use Rattle.tiles.specs.Sheet.{Sheet}
 use Rattle.tiles.specs.Tiles.{tilesOf}
 
@@ -30,11 +29,4 @@ badBox b = badCoordinate (b .«min_x») || badCoordinate (b .«min_y») || badCo
 
 -- the refusals "in this order", the last for a "list shorter than the tiles"; and otherwise how many tiles there are
 unfoldable pub overlappingTilesOf : Sheet → Aabb2 → ℕ → Listed
-overlappingTilesOf s b room =
-    cond (badSheet s) (Refused 4) (cond (badBox b) (Refused 3) (cond (ltb room (length (tilesOf s b))) (Refused 1) (Count (length (tilesOf s b)))))
-
--- the lent list l afterwards, by the answer: a refusal leaves it as it was, and a count of n puts the tiles ts into its first entries
--- and leaves the others
-unfoldable pub leftOf : List ℕ → List ℕ → Listed → List ℕ
-leftOf ts l (Refused k) = l
-leftOf ts l (Count n) = ts ++ drop n l
+overlappingTilesOf s b room = cond (badSheet s) (Refused 4) (cond (badBox b) (Refused 3) (fitted (tilesOf s b) room))

@@ -7,7 +7,7 @@ use Rattle.tiles.specs.Sheet.{Sheet}
 use Rattle.tiles.specs.Answer.{sheet, badSheet, badBox}
 use Rattle.tiles.proofs.Accepted.{sides, corners}
 use Rattle.tiles.proofs.Promised.{Floats, refused-sheet, refused-box}
-use Rattle.tiles.proofs.Found.{Found, count-le, on-sheet, too-short, written, empty}
+use Rattle.tiles.proofs.Found.{Found, count-le, on-sheet, too-short, filled, empty}
 use Rattle.tiles.proofs.overlapping_tiles.Statement.{statement}
 use Rattle.tiles.proofs.overlapping_tiles.Tie as tie
 
@@ -98,7 +98,7 @@ returns-5 : tie.Need-returns-5
 returns-5 c =
     let w = c .before .before .write-rows in
     let d = c .before .before .before .before .before .before .before .before in
-    written (found d) (start d .args .out .now) (w .last .0) (floats (start d)) (c .before .before .before .before .before .if3 .left) (w .ensures)
+    filled (found d) (start d .args .out .now) (w .last .0) (floats (start d)) (c .before .before .before .before .before .if3 .left) (w .ensures)
 
 pub overlapping-tiles-spec : {M : Type 1} → statement M
 overlapping-tiles-spec =

@@ -9,10 +9,10 @@ use Rattle.pixels.proofs.walk.enter_all.Statement.{statement}
 use Rattle.pixels.proofs.walk.enter_all.Tie as tie
 
 abbrev Inv-loop : tie.InvT-loop
-Inv-loop list₀ width height a b last wide high p₀ n₀ k₀ list p n k = Writing width height a b last list₀ list p n k
+Inv-loop list₀ width height a b steps wide high p₀ n₀ k₀ list p n k = Writing width height a b steps list₀ list p n k
 
 abbrev μ-loop : tie.MeasureT-loop
-μ-loop list₀ width height a b last wide high p₀ n₀ k₀ list p n k = last - k
+μ-loop list₀ width height a b steps wide high p₀ n₀ k₀ list p n k = steps - k
 
 int-to-float-wide : tie.Need-int-to-float-wide Inv-loop μ-loop
 int-to-float-wide c = side-float (c .before .before .args .width) (c .before .before .pre .0 .wide)
@@ -26,7 +26,7 @@ first-requires c κs = tt
 loop-holds : tie.Need-loop-holds Inv-loop μ-loop
 loop-holds c =
     let s = c .before .before .before .before .args in
-    writing-none (s .width) (s .height) (s .a) (s .b) (s .last) (s .list .now) (c .first .result) (c .first .ensures)
+    writing-none (s .width) (s .height) (s .a) (s .b) (s .steps) (s .list .now) (c .first .result) (c .first .ensures)
 
 enter-requires : tie.Need-enter-requires Inv-loop μ-loop
 enter-requires c κs =

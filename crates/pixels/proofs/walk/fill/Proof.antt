@@ -2,18 +2,19 @@
 use mathlib.Core.Path.{sym, _∙_}
 use borrow.Author.Needs.{needs}
 use borrow.Author.Tests.{ltb-true}
+use Rattle.pixels.proofs.Stops.{exit-le}
 use Rattle.pixels.proofs.Answers.{with-room, without-room}
 use Rattle.pixels.proofs.walk.fill.Statement.{statement}
 use Rattle.pixels.proofs.walk.fill.Tie as tie
 
-extent-of-requires : tie.Need-extent-of-requires
-extent-of-requires c κs = search needs
+measure-requires : tie.Need-measure-requires
+measure-requires c κs = search needs
 
 write-requires : tie.Need-write-requires
 write-requires c κs =
     let t = c .before in
-    let e = t .before .extent-of .ensures in
-    (t .before .before .before .pre .0, e .last-le, ltb-true _ _ (sym (e .fits-is) ∙ t .if1 .taken))
+    let e = t .before .measure .ensures in
+    (t .before .before .before .pre, rw (e .steps-is) (exit-le _ _), ltb-true _ _ (sym (e .fits-is) ∙ t .if1 .taken))
 
 same-length : tie.Need-same-length
 same-length c = search needs
@@ -22,16 +23,16 @@ returns : tie.Need-returns
 returns c =
     let t = c .before .before .before .before in
     let s = t .before .before .before .args in
-    let e = t .before .extent-of in
-    with-room (s .width) (s .height) (s .a) (s .b) (e .result .last) (e .ensures .last-is) (s .list .now)
+    let e = t .before .measure in
+    with-room (s .width) (s .height) (s .a) (s .b) (e .result .steps) (e .ensures .steps-is) (s .list .now)
     (sym (e .ensures .fits-is) ∙ t .if1 .taken) (c .before .before .write .ensures)
 
 returns-2 : tie.Need-returns-2
 returns-2 c =
     let s = c .before .before .before .args in
-    let e = c .before .extent-of in
-    without-room (s .width) (s .height) (s .a) (s .b) (e .result .last) (e .ensures .last-is) (s .list .now)
+    let e = c .before .measure in
+    without-room (s .width) (s .height) (s .a) (s .b) (e .result .steps) (e .ensures .steps-is) (s .list .now)
     (sym (e .ensures .fits-is) ∙ c .if1 .left)
 
 pub fill-spec : {M : Type 1} → statement M
-fill-spec = tie.close (tie.spec extent-of-requires write-requires same-length returns returns-2)
+fill-spec = tie.close (tie.spec measure-requires write-requires same-length returns returns-2)

@@ -1,15 +1,19 @@
 -- `pixels::overlapping_pixels_dda` meets its contract: each refusal by the tests that led there, and else what the walk answers. Assumes nothing.
 use mathlib.Core.Path.{_≡_, refl, sym, ap, _∙_, subst}
-use mathlib.Core.Bool.{true, false}
+use mathlib.Core.Bool.{false}
+use Prim.Native.Nat.{ℕ}
 use borrow.Author.Needs.{needs}
-use borrow.Author.Tests.{not-true, not-false}
-use lib.Dec.{lit≤}
+use borrow.Author.Tests.{lt-ltb, le-ltb, ltb-false}
+use lib.Dec.{ltb, lit≤}
 use lib.Ieee.{Float}
-use Rattle.pixels.specs.Size.{Size, size-wider}
+use Rattle.rounded.specs.Size.{Size}
+use Rattle.rounded.proofs.Sizes.{size-wider}
+use Rattle.lists.specs.Lent.{leaves}
+use Rattle.lists.proofs.Lent.{no-count}
 use Rattle.pixels.specs.Walk.{stepOf, axisOf}
-use Rattle.pixels.specs.Answer.{sidesTooLarge, endsFit, sameEnds, overlappingPixelsDdaOf, written}
-use Rattle.pixels.specs.Accepted.{AreFloats, Accepted, accepted, step-size}
-use Rattle.pixels.proofs.Answers.{Made, made-drawn, made-ends, made-listing}
+use Rattle.pixels.specs.Answer.{sidesTooLarge, firstOffender, coordinates, sameEnds, overlappingPixelsDdaOf}
+use Rattle.pixels.proofs.Accepted.{AreFloats, Accepted, accepted, step-size, stroke-stops}
+use Rattle.pixels.proofs.Answers.{Made, made-drawn, made-listing}
 use Rattle.pixels.proofs.walk.overlapping_pixels_dda.Statement.{statement}
 use Rattle.pixels.proofs.walk.overlapping_pixels_dda.Tie as tie
 
@@ -24,14 +28,14 @@ floats-at c =
 sides : (c : tie.Else1) → let s = c .before .before .before .args in sidesTooLarge (s .width) (s .height) ≡ false
 sides c = sym (c .before .sides-too-large .ensures) ∙ c .if1 .left
 
-fit : (c : tie.Else2) → let s = c .before .before .before .before .before .args in endsFit (s .p0) (s .p1) ≡ true
-fit c = sym (c .before .ends-fit .ensures) ∙ not-false _ (c .if2 .left)
+fit : (c : tie.Else2) → let s = c .before .before .before .before .before .args in ltb (firstOffender (coordinates (s .p0) (s .p1))) 4 ≡ false
+fit c = ap (λ (n : ℕ). ltb n 4) (sym (c .before .first-offender .ensures)) ∙ le-ltb _ _ (c .if2 .left)
 
 differ : (c : tie.Else3) → let s = c .before .before .before .before .before .before .before .args in sameEnds (s .p0) (s .p1) ≡ false
 differ c = sym (c .before .same-ends .ensures) ∙ c .if3 .left
 
 accepted-at : (c : tie.Else3) → let s = c .before .before .before .before .before .before .before .args in Accepted (s .p0) (s .p1)
-accepted-at c = accepted (floats-at (c .before .before .before .before .before .before .before)) (fit (c .before .before)) (differ c)
+accepted-at c = accepted (floats-at (c .before .before .before .before .before .before .before)) (ltb-false _ _ (fit (c .before .before))) (differ c)
 
 -- the two axes
 made :
@@ -50,22 +54,24 @@ sides-too-large-requires : tie.Need-sides-too-large-requires
 sides-too-large-requires c κs = search needs
 
 returns : tie.Need-returns
-unfolding overlappingPixelsDdaOf written
-returns c = rw (← c .before .sides-too-large .ensures, c .if1 .taken) (refl, refl)
+unfolding overlappingPixelsDdaOf leaves
+returns c = rw (← c .before .sides-too-large .ensures, c .if1 .taken) (refl, (refl, no-count 4))
 
-ends-fit-requires : tie.Need-ends-fit-requires
-ends-fit-requires c κs = search needs
+first-offender-requires : tie.Need-first-offender-requires
+first-offender-requires c κs = search needs
 
 returns-2 : tie.Need-returns-2
-unfolding overlappingPixelsDdaOf written
-returns-2 c = rw (sides (c .before .before), sym (c .before .ends-fit .ensures) ∙ not-true _ (c .if2 .taken)) (refl, refl)
+unfolding overlappingPixelsDdaOf leaves
+returns-2 c =
+    rw (sides (c .before .before), ap (λ (n : ℕ). ltb n 4) (sym (c .before .first-offender .ensures)) ∙ lt-ltb _ _ (c .if2 .taken))
+    (refl, (refl, no-count 3))
 
 same-ends-requires : tie.Need-same-ends-requires
 same-ends-requires c κs = search needs
 
 returns-3 : tie.Need-returns-3
-unfolding overlappingPixelsDdaOf written
-returns-3 c = rw (sides (c .before .before .before .before), fit (c .before .before), sym (c .before .same-ends .ensures) ∙ c .if3 .taken) (refl, refl)
+unfolding overlappingPixelsDdaOf leaves
+returns-3 c = rw (sides (c .before .before .before .before), fit (c .before .before), sym (c .before .same-ends .ensures) ∙ c .if3 .taken) (refl, (refl, no-count 2))
 
 step-of-requires : tie.Need-step-of-requires
 step-of-requires c κs = search needs
@@ -90,7 +96,7 @@ fill-requires : tie.Need-fill-requires
 fill-requires c κs =
     let v = c .before .before .before .before .before in
     let m = made (c .before .before) in
-    (made-drawn m (accepted-at v) (sides (v .before .before .before .before)), made-ends m (accepted-at v))
+    made-drawn m (accepted-at v) (sides (v .before .before .before .before))
 
 same-length : tie.Need-same-length
 same-length c = search needs
@@ -101,8 +107,8 @@ returns-4 c =
     let v = c .before .before .before .before .before .before .before .before in
     let s = v .before .before .before .before .before .before .before .args in
     let f = c .before .before .fill in
-    rw (sides (v .before .before .before .before), fit (v .before .before), differ v)
-    (made-listing (made (c .before .before .before .before .before)) (s .width) (s .height) (s .list .now) (f .result) (f .last .0) (f .ensures))
+    let l = made-listing (made (c .before .before .before .before .before)) (s .width) (s .height) (s .list .now) (f .result) (f .last .0) (f .ensures) in
+    rw (sides (v .before .before .before .before), fit (v .before .before), differ v) (l .0, (l .1, λ n z. stroke-stops (accepted-at v)))
 
 pub overlapping-pixels-dda-spec : {M : Type 1} → statement M
 overlapping-pixels-dda-spec =
@@ -110,7 +116,7 @@ overlapping-pixels-dda-spec =
     (tie.spec
     sides-too-large-requires
     returns
-    ends-fit-requires
+    first-offender-requires
     returns-2
     same-ends-requires
     returns-3

@@ -11,7 +11,7 @@ pixel-requires : tie.Need-pixel-requires
 pixel-requires c κs =
     let s = c .before .before .before .before .before .pre in
     let e = c .before .before .enter-all in
-    (s .0 .wide, position-bounded (s .0) (c .before .before .before .before .before .args .last) (s .1) (e .result .position) (e .ensures .position-is))
+    (s .0 .wide, position-bounded (s .0) (c .before .before .before .before .before .args .steps) (s .1) (e .result .position) (e .ensures .position-is))
 
 mul-list : tie.Need-mul-list
 mul-list c = search needs

@@ -13,9 +13,10 @@ use lib.Ieee.Fits.{down-pos, up-pos}
 use lib.Ieee.Scale.{round-same}
 use Rattle.float.specs.Rounded.{_⊘_}
 use Rattle.float.specs.Values.{absOf, maxOf}
-use Rattle.pixels.specs.Size.{Size, round-size}
-use Rattle.pixels.specs.Step.{unit}
-use Rattle.pixels.specs.Apart.{NonZero}
+use Rattle.rounded.proofs.Sizes.{round-size}
+use Rattle.rounded.specs.Size.{Size}
+use Rattle.rounded.proofs.Step.{unit}
+use Rattle.rounded.proofs.Apart.{NonZero}
 
 -- ---- a quotient by the larger of two
 

@@ -1,33 +1,31 @@
--- `pixels::counted_extent` meets its contract. The loop's invariant: p is position k, the walk goes on at each position before, and n of those are
--- in the image. It ends as `exit_of` does. Assumes nothing.
+-- `pixels::measure_counting` meets its contract. The loop's invariant is that of `exit_of`, and that n of the positions before are in the image.
+-- Assumes nothing.
 use mathlib.Core.Path.{_≡_, sym, ap, _∙_}
 use mathlib.Core.Bool.{true}
 use Prim.Native.Nat.{ℕ, _+_, _-_, _<_}
 use native.Mathlib.Omega.{arith}
 use lib.Dec.{ltb}
-use Rattle.pixels.specs.Walk.{inRanges}
-use Rattle.pixels.specs.Lists.{oneIf, one-le}
+use Rattle.pixels.specs.Walk.{mostSteps}
+use Rattle.pixels.proofs.Lists.{one-le}
+use Rattle.pixels.specs.Post.{oneIf, stepsOn}
 use Rattle.pixels.proofs.Casts.{side-float}
 use Rattle.pixels.proofs.Walking.{Walking, walking-none, walking-few, walking-more, walking-end}
 use Rattle.pixels.proofs.Counting.{Counting, counting-none, counting-few, counting-more}
-use Rattle.pixels.proofs.walk.counted_extent.Statement.{statement}
-use Rattle.pixels.proofs.walk.counted_extent.Tie as tie
+use Rattle.pixels.proofs.walk.measure_counting.Statement.{statement}
+use Rattle.pixels.proofs.walk.measure_counting.Tie as tie
 
 abbrev Inv-loop : tie.InvT-loop
 Inv-loop room width height a b wide high p₀ n₀ k₀ p n k = Walking a b p k × Counting width height a b p n k
 
 abbrev μ-loop : tie.MeasureT-loop
-μ-loop room width height a b wide high p₀ n₀ k₀ p n k = 131074 - k
+μ-loop room width height a b wide high p₀ n₀ k₀ p n k = mostSteps - k
 
--- in a turn the walk goes on
-goes :
-    (c : tie.Then1 Inv-loop μ-loop) →
-    let s = c .before .before .before .before .before .before .args in
-    inRanges (s .a) (s .b) (c .before .before .loop .p) ≡ true
-goes c = sym (c .before .in-ranges .ensures) ∙ c .if1 .taken
+-- in a turn
+steps : (c : tie.Then1 Inv-loop μ-loop) → let s = c .before .before .before .before .before .before .args in let g = c .before .before .loop in stepsOn (s .a) (s .b) (g .p) (g .k) ≡ true
+steps c = sym (c .before .steps-on .ensures) ∙ c .if1 .taken
 
-few : (c : tie.Then1 Inv-loop μ-loop) → c .before .before .loop .k < 131074
-few c = walking-few (c .before .before .loop .inv .0) (c .before .before .before .before .before .before .pre .2) (goes c)
+few : (c : tie.Then1 Inv-loop μ-loop) → c .before .before .loop .k < mostSteps
+few c = walking-few (c .before .before .loop .inv .0) (steps c)
 
 int-to-float-wide : tie.Need-int-to-float-wide Inv-loop μ-loop
 int-to-float-wide c = side-float (c .before .args .width) (c .before .pre .0)
@@ -45,8 +43,8 @@ loop-holds c =
       counting-none (s .width) (s .height) (s .a) (s .b) (c .first .result) (c .first .ensures),
     )
 
-in-ranges-requires : tie.Need-in-ranges-requires Inv-loop μ-loop
-in-ranges-requires c κs = tt
+steps-on-requires : tie.Need-steps-on-requires Inv-loop μ-loop
+steps-on-requires c κs = tt
 
 in-sides-requires : tie.Need-in-sides-requires Inv-loop μ-loop
 in-sides-requires c κs = tt
@@ -72,7 +70,7 @@ loop-again : tie.Need-loop-again Inv-loop μ-loop
 loop-again c =
     let t = c .before .before .before in
     let g = t .before .before .loop in (
-      walking-more (g .inv .0) (goes t) (c .next .result) (c .next .ensures),
+      walking-more (g .inv .0) (steps t) (c .next .result) (c .next .ensures),
       counting-more (g .inv .1) (c .next .result) (c .next .ensures)
           _ (ap (λ (i : ℕ). g .n + i) (c .before .one-if .ensures ∙ ap oneIf (c .before .before .in-sides .ensures))),
     )
@@ -81,11 +79,10 @@ returns : tie.Need-returns Inv-loop μ-loop
 returns c =
     let s = c .before .before .before .before .before .before in
     let g = c .before .before .loop in
-    let e = walking-end (g .inv .0) (s .pre .2) (sym (c .before .in-ranges .ensures) ∙ c .if1 .left) in
-    record { last-is = e .0; last-le = e .1; fits-is = ap (λ (i : ℕ). ltb i (s .args .room)) (g .inv .1 .count) }
+    record { steps-is = walking-end (g .inv .0) (sym (c .before .steps-on .ensures) ∙ c .if1 .left); fits-is = ap (λ (i : ℕ). ltb i (s .args .room)) (g .inv .1 .count) }
 
-pub counted-extent-spec : {M : Type 1} → statement M
-counted-extent-spec =
+pub measure-counting-spec : {M : Type 1} → statement M
+measure-counting-spec =
     tie.close
     (tie.spec
     Inv-loop
@@ -94,7 +91,7 @@ counted-extent-spec =
     int-to-float-high
     first-requires
     loop-holds
-    in-ranges-requires
+    steps-on-requires
     in-sides-requires
     one-if-requires
     add-n

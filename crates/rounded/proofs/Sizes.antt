@@ -8,13 +8,9 @@ use lib.Dec.{ltb}
 use lib.Ieee.{Float, nan, inf, fin, binary32, up, down, round, neg, sum, add, sub}
 use lib.Ieee.Fits.{down-pos}
 use Rattle.float.specs.Rounded.{_⊕_, _⊖_}
-use Rattle.pixels.specs.Round.{Mag, round-mag, round-mag-neg}
-
--- x is finite and at most k in size
-abbrev pub Size : ℕ → Float → Type 0
-Size k nan = ⊥
-Size k (inf s) = ⊥
-Size k (fin s m e) = m * up e ≤ k * down e
+use Rattle.float.specs.Values.{absOf}
+use Rattle.rounded.proofs.Round.{Mag, round-mag, round-mag-neg}
+use Rattle.rounded.specs.Size.{Size}
 
 pub size-wider : (k l : ℕ) (x : Float) → k ≤ l → Size k x → Size l x
 size-wider k l nan h u = u
@@ -35,6 +31,16 @@ unfolding neg
 neg-size k nan h = h
 neg-size k (inf s) h = h
 neg-size k (fin s m e) h = h
+
+pub cond-size : (t : Bool) (k : ℕ) (x y : Float) → Size k x → Size k y → Size k (cond t y x)
+cond-size true k x y h i = i
+cond-size false k x y h i = h
+
+pub abs-size : (k : ℕ) (x : Float) → Size k x → Size k (absOf x)
+unfolding absOf
+abs-size k nan h = h
+abs-size k (inf s) h = h
+abs-size k (fin s m e) h = h
 
 -- ±A / C + ±B / C, at most a and b in size
 sum-size : (s t : Bool) (A B C a b : ℕ) → 0 < C → A ≤ a * C → B ≤ b * C → a + b ≤ 2 ^ 24 → Size (a + b) (sum binary32 s A t B C)

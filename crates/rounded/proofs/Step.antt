@@ -12,8 +12,8 @@ use lib.Dec.{ltb, lit≤}
 use lib.Ieee.{Float, nan, inf, fin, binary32, up, down, round, neg, sum, add, lt}
 use lib.Ieee.Fits.{down-pos}
 use Rattle.float.specs.Rounded.{_⊕_}
-use Rattle.pixels.specs.Round.{round-neg, Mag, round-mag, round-mag-neg}
-use Rattle.pixels.specs.Size.{Size}
+use Rattle.rounded.proofs.Round.{round-neg, Mag, round-mag, round-mag-neg}
+use Rattle.rounded.specs.Size.{Size}
 
 -- whole numbers are counted from -2 ^ 17, so that they are not negative
 abbrev pub base : ℕ

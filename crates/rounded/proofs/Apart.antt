@@ -14,8 +14,8 @@ use lib.Ieee.{Float, nan, inf, fin, binary32, up, down, round, neg, sum, add, su
 use lib.Ieee.Fits.{down-pos, and-l, and-r}
 use lib.Ieee.Order.{round-mono}
 use Rattle.float.specs.Rounded.{_⊖_}
-use Rattle.pixels.specs.Round.{le-num, round-neg}
-use Rattle.pixels.specs.Size.{Size}
+use Rattle.rounded.proofs.Round.{le-num, round-neg}
+use Rattle.rounded.specs.Size.{Size}
 
 -- a number that is not zero
 abbrev pub NonZero : Float → Type 0

@@ -1,30 +1,26 @@
--- A walk ends if one of its axes takes steps of 1 or -1: after 131,074 steps that coordinate has passed 65,537, where its range ends at the latest.
--- Assumes nothing.
+-- A walk with steps of 1 or -1 on one of its axes is outside its ranges after 131,074 steps: that coordinate has passed 65,537, where its range
+-- ends at the latest. Assumes nothing.
 use mathlib.Core.Path.{_≡_, refl, sym, ap, _∙_, subst}
 use mathlib.Core.Bool.{Bool, true, false, not, _&&_, _||_, true≢false}
 use mathlib.Core.Logic.{_⊎_, inl, inr}
-use Prim.Native.Nat.{ℕ, zero, suc, _+_, _*_, _≤_}
+use Prim.Native.Nat.{ℕ, zero, suc, _+_, _*_, _≤_, _<_}
 use native.Mathlib.Nat.{add-comm}
 use native.Mathlib.Omega.{arith}
+use borrow.Author.Tests.{not-true}
 use lib.Dec.{ltb}
 use lib.Ieee.{Float, nan, inf, fin, up, down, neg, lt}
 use Rattle.float.specs.Rounded.{_⊕_}
+use Rattle.rounded.specs.Size.{Size}
+use Rattle.rounded.proofs.Sizes.{size-wider, neg-size, add-size}
+use Rattle.rounded.proofs.Step.{Past, Under, unit, directed, under-of-size, past-of-size, step, past-under, under-not}
 use Rattle.pixels.specs.declared.axis.Axis.{Axis}
-use Rattle.pixels.specs.Size.{Size, size-wider, neg-size, add-size}
-use Rattle.pixels.specs.Step.{Past, Under, unit, directed, under-of-size, past-of-size, step, past-under, under-not}
-use Rattle.pixels.specs.Walk.{at, within, inRanges, goesOn}
-use Rattle.pixels.specs.Leaves.{Ends}
+use Rattle.pixels.specs.Walk.{at, within, inRanges, goesOn, mostSteps}
+use Rattle.pixels.specs.Post.{Sized}
 
 -- ---- sizes
 
-pub record Sized (a : Axis) : Type 0 where
-  pub start-size : Size 65536 (a .start)
-  pub slope-size : Size 1 (a .slope)
-  pub low-size : Size 65537 (a .low)
-  pub high-size : Size 65537 (a .high)
-
 -- each step adds at most one
-pub at-size : {a : Axis} → Sized a → (k : ℕ) → k ≤ 131074 → Size (65536 + k) (at a k)
+pub at-size : {a : Axis} → Sized a → (k : ℕ) → k ≤ mostSteps → Size (65536 + k) (at a k)
 unfolding at
 at-size s zero h = s .start-size
 at-size {a} s (suc k) h =
@@ -41,7 +37,7 @@ directed-size true k x h = neg-size k x h
 abbrev pub Major : Axis → Type 0
 Major a = (s : Bool) × (a .slope ≡ unit s)
 
-past-at : {a : Axis} → Sized a → (m : Major a) (k : ℕ) → k ≤ 131074 → Past (65536 + k) (directed (m .0) (at a k))
+past-at : {a : Axis} → Sized a → (m : Major a) (k : ℕ) → k ≤ mostSteps → Past (65536 + k) (directed (m .0) (at a k))
 unfolding at
 past-at {a} z m zero h = past-of-size 65536 (directed (m .0) (a .start)) (omega arith) (directed-size (m .0) 65536 (a .start) (z .start-size))
 past-at {a} z m (suc k) h =
@@ -72,35 +68,31 @@ lt-neg (fin true m e) (fin false n d) = ap (λ (z : ℕ). ltb 0 z) (add-comm (n 
 lt-neg (fin false m e) (fin true n d) = refl
 lt-neg (fin false m e) (fin false n d) = refl
 
-neither : (a b : Bool) → not (a || b) ≡ true → (a ≡ false) × (b ≡ false)
-neither true b h = absurd (true≢false (sym h))
-neither false true h = absurd (true≢false (sym h))
-neither false false h = (refl, refl)
+pub neither : (a b : Bool) → (a || b) ≡ false → (a ≡ false) × (b ≡ false)
+neither true b e = absurd (true≢false e)
+neither false b e = (refl, e)
 
 -- within its range it is at most 65,537 in the direction of its steps
 within-under : {a : Axis} → Sized a → (s : Bool) (j : ℕ) (x : Float) → Past j (directed s x) → within a x ≡ true → Under 65537 (directed s x)
 unfolding within
-within-under {a} z false j x p w = under-not j 65537 x (a .high) p (under-of-size 65537 (a .high) (z .high-size)) (neither (lt x (a .low)) (lt (a .high) x) w .1)
+within-under {a} z false j x p w = under-not j 65537 x (a .high) p (under-of-size 65537 (a .high) (z .high-size)) (neither (lt x (a .low)) (lt (a .high) x) (not-true _ w) .1)
 within-under {a} z true j x p w =
     under-not j 65537 (neg x) (neg (a .low)) p (under-of-size 65537 (neg (a .low)) (neg-size 65537 (a .low) (z .low-size)))
-    (lt-neg x (a .low) ∙ neither (lt x (a .low)) (lt (a .high) x) w .0)
+    (lt-neg x (a .low) ∙ neither (lt x (a .low)) (lt (a .high) x) (not-true _ w) .0)
 
-few : {a : Axis} → Sized a → Major a → (k : ℕ) → k ≤ 131074 → within a (at a k) ≡ true → k ≤ 131073
+few : {a : Axis} → Sized a → Major a → (k : ℕ) → k ≤ mostSteps → within a (at a k) ≡ true → k < mostSteps
 few {a} z m k h w =
     let p = past-at z m k h in
     omega (arith, past-under (65536 + k) 65537 (directed (m .0) (at a k)) p (within-under z (m .0) (65536 + k) (at a k) p w))
 
--- ---- so it ends
+-- ---- so it is outside
 
-outside : {a b : Axis} → Sized a → Sized b → Major a ⊎ Major b → goesOn a b 131074 ≡ false
+pub outside : {a b : Axis} → Sized a → Sized b → Major a ⊎ Major b → goesOn a b mostSteps ≡ false
 unfolding inRanges
-outside {a} {b} y z m = go (within a (at a 131074)) (within b (at b 131074)) refl refl m
+outside {a} {b} y z m = go (within a (at a mostSteps)) (within b (at b mostSteps)) refl refl m
   where
-    go : (u v : Bool) → within a (at a 131074) ≡ u → within b (at b 131074) ≡ v → Major a ⊎ Major b → (u && v) ≡ false
+    go : (u v : Bool) → within a (at a mostSteps) ≡ u → within b (at b mostSteps) ≡ v → Major a ⊎ Major b → (u && v) ≡ false
     go false v p q m = refl
     go true false p q m = refl
-    go true true p q (inl i) = absurd (omega (arith, few y i 131074 (omega arith) p))
-    go true true p q (inr i) = absurd (omega (arith, few z i 131074 (omega arith) q))
-
-pub ends : {a b : Axis} → Sized a → Sized b → Major a ⊎ Major b → Ends a b
-ends y z m = record { last = 131074; top = omega arith; out = outside y z m }
+    go true true p q (inl i) = absurd (omega (arith, few y i mostSteps (omega arith) p))
+    go true true p q (inr i) = absurd (omega (arith, few z i mostSteps (omega arith) q))

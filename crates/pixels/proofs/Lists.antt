@@ -1,28 +1,16 @@
 -- The entries of a walk's first positions, and how one position more adds to them. Assumes nothing.
 use mathlib.Core.Path.{_≡_, refl, sym, ap, _∙_, subst}
 use mathlib.Core.Bool.{Bool, true, false}
-use mathlib.Core.List.{List, [], _∷_, _++_}
+use mathlib.Core.List.{List, [], _∷_, _++_, map, map-append}
 use Prim.Native.Nat.{ℕ, zero, suc, _+_, _≤_}
 use native.Mathlib.Omega.{arith}
 use lib.ListN.{length, set, length-append}
 use Rattle.types.specs.declared.shape.Vec2.{Vec2}
+use Rattle.lists.specs.Places.{upto}
 use Rattle.pixels.specs.declared.axis.Axis.{Axis}
-use Rattle.pixels.specs.Walk.{position, upto}
-use Rattle.pixels.specs.Entries.{onImage, number, keepIf, kept, each, pixels}
-
--- how many a test lets in
-abbrev pub oneIf : Bool → ℕ
-oneIf true = 1
-oneIf false = 0
-
--- a store that a test lets through
-abbrev pub setIf : Bool → List ℕ → ℕ → ℕ → List ℕ
-setIf true l n v = set l n v
-setIf false l n v = l
-
--- the entries of the first k positions
-abbrev pub entered : ℕ → ℕ → Axis → Axis → ℕ → List ℕ
-entered w h a b k = pixels w h (upto (position a b) k)
+use Rattle.pixels.specs.Walk.{position}
+use Rattle.pixels.specs.Entries.{onImage, number, keepIf, kept, pixels}
+use Rattle.pixels.specs.Post.{oneIf, setIf, entered}
 
 -- ---- one position more
 
@@ -35,25 +23,20 @@ kept-append {A} t (x ∷ l) k = go (t x) (kept-append t l k)
     go true e = ap (λ (z : List A). x ∷ z) e
     go false e = e
 
-each-append : {A B : Type 0} (f : A → B) (l k : List A) → each f (l ++ k) ≡ each f l ++ each f k
-unfolding each
-each-append f [] k = refl
-each-append {B = B} f (x ∷ l) k = ap (λ (z : List B). f x ∷ z) (each-append f l k)
-
 pixels-append : (w h : ℕ) (ps qs : List Vec2) → pixels w h (ps ++ qs) ≡ pixels w h ps ++ pixels w h qs
 unfolding pixels
-pixels-append w h ps qs = ap (each (number w)) (kept-append (onImage w h) ps qs) ∙ each-append (number w) (kept (onImage w h) ps) (kept (onImage w h) qs)
+pixels-append w h ps qs = ap (map (number w)) (kept-append (onImage w h) ps qs) ∙ map-append (number w) (kept (onImage w h) ps) (kept (onImage w h) qs)
 
 pixels-one : (w h : ℕ) (p : Vec2) → pixels w h (p ∷ []) ≡ keepIf (onImage w h p) (number w p) []
-unfolding pixels kept each
+unfolding pixels kept
 pixels-one w h p = go (onImage w h p)
   where
-    go : (t : Bool) → each (number w) (keepIf t p []) ≡ keepIf t (number w p) []
+    go : (t : Bool) → map (number w) (keepIf t p []) ≡ keepIf t (number w p) []
     go true = refl
     go false = refl
 
 pub entered-none : (w h : ℕ) (a b : Axis) → entered w h a b 0 ≡ []
-unfolding pixels upto kept each
+unfolding pixels upto kept
 entered-none w h a b = refl
 
 pub entered-suc : (w h : ℕ) (a b : Axis) (k : ℕ)

@@ -1,9 +1,9 @@
--- An accepted stroke: what the tests say of its ends, and that its walk leaves the ranges of its ends, which is the theorem behind `fuel`.
--- Assumes nothing.
+-- An accepted stroke: what the tests say of its ends, and that its walk leaves their ranges by itself. Assumes nothing.
 use mathlib.Core.Path.{_≡_, refl, sym, subst}
 use mathlib.Core.Bool.{Bool, true, false, _&&_, _||_, cond, true≢false}
 use mathlib.Core.Logic.{_⊎_, inl, inr}
-use Prim.Native.Nat.{ℕ, _*_, _≤_}
+use mathlib.Core.List.{List, [], _∷_}
+use Prim.Native.Nat.{ℕ, suc, _*_, _≤_}
 use native.Mathlib.Nat.{mul-one}
 use native.Mathlib.Omega.{arith}
 use lib.IntN.{pos}
@@ -12,14 +12,17 @@ use lib.Ieee.{Float, nan, inf, fin, binary32, up, lt, le, eq, isNan, fits, ofBit
 use Rattle.types.specs.declared.shape.Vec2.{Vec2}
 use Rattle.float.specs.Rounded.{_⊖_, _⊘_, epsilon}
 use Rattle.float.specs.Values.{absOf, minOf, maxOf}
-use Rattle.pixels.specs.Walk.{stepOf, axisOf, goesOn, leaves, exit, alongX, alongY}
-use Rattle.pixels.specs.Answer.{withinLimit, pointFits, endsFit, sameEnds}
-use Rattle.pixels.specs.Round.{le-num}
-use Rattle.pixels.specs.Size.{Size, add-size, sub-size}
-use Rattle.pixels.specs.Leaves.{Leaves, Ends, exit-leaves, any-fuel}
-use Rattle.pixels.specs.Ends.{Sized, Major, ends}
-use Rattle.pixels.specs.Apart.{NonZero, apart}
-use Rattle.pixels.specs.Slopes.{Slopes, slopes}
+use Rattle.rounded.specs.Size.{Size}
+use Rattle.rounded.proofs.Round.{le-num}
+use Rattle.rounded.proofs.Sizes.{cond-size, abs-size, add-size, sub-size}
+use Rattle.rounded.proofs.Apart.{NonZero, apart}
+use Rattle.rounded.proofs.Slopes.{Slopes, slopes}
+use Rattle.pixels.specs.Walk.{stepOf, axisOf, alongX, alongY}
+use Rattle.pixels.specs.Stops.{Stops}
+use Rattle.pixels.specs.Answer.{withinLimit, firstOffender, coordinates, sameEnds}
+use Rattle.pixels.specs.Post.{Sized}
+use Rattle.pixels.proofs.Outside.{Major, outside}
+use Rattle.pixels.proofs.Stops.{stops}
 
 -- ---- what the tests say
 
@@ -42,10 +45,6 @@ pub record AreFloats (p q : Vec2) : Type 0 where
   pub x1 : fits binary32 (q .x) ≡ true
   pub y1 : fits binary32 (q .y) ≡ true
 
-both : (a b : Bool) → (a && b) ≡ true → (a ≡ true) × (b ≡ true)
-both true b e = (refl, e)
-both false b e = absurd (true≢false (sym e))
-
 either : (a b : Bool) → (a && b) ≡ false → (a ≡ false) ⊎ (b ≡ false)
 either true b e = inr e
 either false b e = inl refl
@@ -59,17 +58,27 @@ limit-size (fin s m e) t = omega (arith, le-num m e 1 (pos 16) (subst T (sym t) 
 coordinate : (x : Float) → fits binary32 x ≡ true → withinLimit x ≡ true → Coordinate x
 coordinate x f t = record { fit = subst T (sym f) tt; size = limit-size x t }
 
-pub accepted : {p q : Vec2} → AreFloats p q → endsFit p q ≡ true → sameEnds p q ≡ false → Accepted p q
-unfolding endsFit pointFits sameEnds
+-- one coordinate is within the limit, and n more are
+within-more : (n : ℕ) (x : Float) (xs : List Float) → suc n ≤ firstOffender (x ∷ xs) → (withinLimit x ≡ true) × (n ≤ firstOffender xs)
+unfolding firstOffender
+within-more n x xs = go (withinLimit x)
+  where
+    go : (t : Bool) → suc n ≤ cond t (suc (firstOffender xs)) 0 → (t ≡ true) × (n ≤ firstOffender xs)
+    go true h = (refl, omega arith)
+    go false h = absurd (let z : ⊥ = omega arith in z)
+
+pub accepted : {p q : Vec2} → AreFloats p q → 4 ≤ firstOffender (coordinates p q) → sameEnds p q ≡ false → Accepted p q
+unfolding sameEnds
 accepted {p} {q} f t d =
-    let r = both (pointFits p) (pointFits q) t in
-    let s = both (withinLimit (p .x)) (withinLimit (p .y)) (r .0) in
-    let u = both (withinLimit (q .x)) (withinLimit (q .y)) (r .1) in
+    let x0 = within-more 3 (p .x) (p .y ∷ q .x ∷ q .y ∷ []) t in
+    let y0 = within-more 2 (p .y) (q .x ∷ q .y ∷ []) (x0 .1) in
+    let x1 = within-more 1 (q .x) (q .y ∷ []) (y0 .1) in
+    let y1 = within-more 0 (q .y) [] (x1 .1) in
     record {
-      x0 = coordinate (p .x) (f .x0) (s .0);
-      y0 = coordinate (p .y) (f .y0) (s .1);
-      x1 = coordinate (q .x) (f .x1) (u .0);
-      y1 = coordinate (q .y) (f .y1) (u .1);
+      x0 = coordinate (p .x) (f .x0) (x0 .0);
+      y0 = coordinate (p .y) (f .y0) (y0 .0);
+      x1 = coordinate (q .x) (f .x1) (x1 .0);
+      y1 = coordinate (q .y) (f .y1) (y1 .0);
       differ = either (eq (p .x) (q .x)) (eq (p .y) (q .y)) d;
     }
 
@@ -80,16 +89,6 @@ difference-size {x} {y} a b = sub-size 65536 65536 y x (b .size) (a .size) (lit�
 
 difference-nonzero : {x y : Float} → Coordinate x → Coordinate y → eq x y ≡ false → NonZero (y ⊖ x)
 difference-nonzero {x} {y} a b h = apart x y 65536 65536 (a .fit) (b .fit) (a .size) (b .size) h
-
-cond-size : (t : Bool) (k : ℕ) (x y : Float) → Size k x → Size k y → Size k (cond t y x)
-cond-size true k x y h i = i
-cond-size false k x y h i = h
-
-abs-size : (k : ℕ) (x : Float) → Size k x → Size k (absOf x)
-unfolding absOf
-abs-size k nan h = h
-abs-size k (inf s) h = h
-abs-size k (fin s m e) h = h
 
 epsilon-size : Size 1 epsilon
 unfolding ofBits
@@ -132,13 +131,5 @@ module _ {p q : Vec2} (w : Accepted p q) where
   unfolding axisOf
   major = slopes-of .major
 
-  pub stroke-ends : Ends (alongX p q) (alongY p q)
-  stroke-ends = ends sized-x sized-y major
-
-  -- An accepted stroke goes on at each position before `exit` and not at `exit`, which is at most 131,074.
-  pub stroke-leaves : (exit (alongX p q) (alongY p q) ≤ 131074) × Leaves (alongX p q) (alongY p q) (exit (alongX p q) (alongY p q))
-  stroke-leaves = exit-leaves stroke-ends
-
-  -- Any fuel from 131,074 on finds the same `exit`.
-  pub stroke-any-fuel : (n : ℕ) → 131074 ≤ n → leaves (alongX p q) (alongY p q) n (goesOn (alongX p q) (alongY p q) 0) 0 ≡ exit (alongX p q) (alongY p q)
-  stroke-any-fuel n h = any-fuel stroke-ends n h
+  pub stroke-stops : Stops (alongX p q) (alongY p q)
+  stroke-stops = stops (alongX p q) (alongY p q) (outside sized-x sized-y major)

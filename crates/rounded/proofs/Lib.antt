@@ -1,0 +1,5 @@
+pub mod Round
+pub mod Sizes
+pub mod Step
+pub mod Apart
+pub mod Slopes
