@@ -3,7 +3,7 @@ use mathlib.Core.Path.{_≡_, refl, sym}
 use mathlib.Core.Bool.{Bool, true, false, cond}
 use lib.IntN.{pos}
 use lib.Ieee.{Float, nan, inf, fin, lt, isNan}
-use Rattle.float.specs.Values.{minOf, maxOf, lesserOf, greaterOf, numberOr}
+use Rattle.float.specs.Values.{minOf, maxOf, lesserOf, greaterOf, numberOrOf}
 
 -- ---- a NaN is dropped, and of two zeros the first is kept
 
@@ -57,14 +57,14 @@ either true x = refl
 either false x = refl
 
 -- with b in the place of a NaN one test is enough too
-pub mended-min : (a b : Float) → lesserOf (numberOr a b) b ≡ minOf a b
-unfolding lesserOf minOf numberOr isNan
+pub mended-min : (a b : Float) → lesserOf (numberOrOf a b) b ≡ minOf a b
+unfolding lesserOf minOf numberOrOf isNan
 mended-min nan b = either (lt b b) b
 mended-min (inf s) b = refl
 mended-min (fin s m e) b = refl
 
-pub mended-max : (a b : Float) → greaterOf (numberOr a b) b ≡ maxOf a b
-unfolding greaterOf maxOf numberOr isNan
+pub mended-max : (a b : Float) → greaterOf (numberOrOf a b) b ≡ maxOf a b
+unfolding greaterOf maxOf numberOrOf isNan
 mended-max nan b = either (lt b b) b
 mended-max (inf s) b = refl
 mended-max (fin s m e) b = refl

@@ -26,5 +26,5 @@ lesserOf a b = cond (lt b a) b a
 unfoldable pub greaterOf : Float → Float → Float
 greaterOf a b = cond (lt a b) b a
 
-unfoldable pub numberOr : Float → Float → Float
-numberOr a b = cond (isNan a) b a
+unfoldable pub numberOrOf : Float → Float → Float
+numberOrOf a b = cond (isNan a) b a

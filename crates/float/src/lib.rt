@@ -1,6 +1,6 @@
 // Absolute value, minimum, maximum and clamp on f32. specs/Values.antt has what each returns.
 ghost use mathlib.Core.Path.{_≡_};
-ghost use Rattle.float.specs.Values.{absOf, minOf, maxOf, clampOf, lesserOf, greaterOf, numberOr};
+ghost use Rattle.float.specs.Values.{absOf, minOf, maxOf, clampOf, lesserOf, greaterOf, numberOrOf};
 
 // 2 ^ 23: the weight of the leading one of an f32's 24 binary digits, and of the exponent's field among its bits.
 pub const LEADING: u32 = 8388608;
@@ -72,7 +72,7 @@ pub fn greater(a: f32, b: f32) -> f32
 
 // a, or b in the place of a NaN.
 pub fn number_or(a: f32, b: f32) -> f32
-    ensures { λ r. ⌜ r ≡ numberOr a b ⌝ }
+    ensures { λ r. ⌜ r ≡ numberOrOf a b ⌝ }
 {
     if a != a { b } else { a }
 }

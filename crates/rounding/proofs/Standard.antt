@@ -7,8 +7,8 @@ use native.Mathlib.Omega.{arith}
 use lib.IntN.{ℤ, pos, negsuc, negℤ, _*ℤ_}
 use lib.Signed.{leZ}
 use lib.Dec.{T, le→leb, leb→le}
-use lib.Ieee.{Float, nan, inf, fin, binary32, up, down, fits}
-use lib.Ieee.Fits.{down-pos, nan-fits, inf-fits, round-fits}
+use lib.Ieee.{Float, nan, inf, fin, binary32, up, down, neg, fits}
+use lib.Ieee.Fits.{down-pos, nan-fits, inf-fits, neg-fits, round-fits}
 use lib.Ieee.Exact.{HasValue}
 use lib.Ieee.Back.{whole-unique}
 use lib.Ieee.Scale.{finite}
@@ -16,6 +16,7 @@ use Rattle.rounding.specs.Values.{sizeDown, sizeUp, wholeOf, floorOf, ce
 use Rattle.float.specs.Units.{signed}
 use Rattle.rounding.specs.Integral.{sign, Equal, atMost, atLeast, TowardNegative, TowardPositive}
 use Rattle.rounding.specs.Promise.{RoundsToIntegral}
+use Rattle.rounding.proofs.Whole.{ceil-by-floor}
 use Rattle.rounding.proofs.Ends.{down-greatest, up-least, down-exact, up-exact}
 
 -- ---- the order of negated numbers
@@ -214,11 +215,7 @@ pub floor-rounds : (x r : Float) → T (fits binary32 x) → r ≡ floorOf x →
 floor-rounds x r f = rounds-to TowardNegative floorOf x (floor-fits x) (floor-is x f) (floor-only x) (floor-kept x) r
 
 ceil-fits : (x : Float) → T (fits binary32 (ceilOf x))
-unfolding ceilOf wholeOf
-ceil-fits nan = nan-fits binary32
-ceil-fits (inf s) = inf-fits binary32 s
-ceil-fits (fin false m e) = round-fits binary32 false (sizeUp m e) 1
-ceil-fits (fin true m e) = round-fits binary32 true (sizeDown m e) 1
+ceil-fits x = rw (← ceil-by-floor x) (neg-fits binary32 (floorOf (neg x)) (floor-fits (neg x)))
 
 ceil-kept : (x : Float) → T (not (finite x)) → ceilOf x ≡ x
 unfolding ceilOf
