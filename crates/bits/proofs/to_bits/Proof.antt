@@ -1,7 +1,8 @@
 -- `bits::to_bits` meets its contract: a NaN has the pattern that lib.Ieee writes, and `f32::to_bits` takes any other float. Assumes nothing.
 use mathlib.Core.Path.{sym, _∙_}
 use borrow.Author.Needs.{needs}
-use Rattle.bits.proofs.Nan.{number, quiet}
+use Rattle.float.proofs.Tests.{number}
+use Rattle.bits.proofs.Nan.{quiet}
 use Rattle.bits.proofs.to_bits.Statement.{statement}
 use Rattle.bits.proofs.to_bits.Tie as tie
 
