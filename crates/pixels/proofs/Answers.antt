@@ -10,13 +10,13 @@ use lib.ListN.{length}
 use Rattle.types.specs.declared.shape.Vec2.{Vec2}
 use Rattle.types.specs.declared.answer.Listed.{Listed}
 use Rattle.types.specs.declared.answer.Listed.the-variants.{Count, Refused}
+use Rattle.float.proofs.Tests.{neither}
 use Rattle.lists.specs.Lent.{written, fitted, leaves}
 use Rattle.pixels.specs.declared.axis.Axis.{Axis}
 use Rattle.pixels.specs.Walk.{exit, positions, alongX, alongY}
 use Rattle.pixels.specs.Entries.{entries, strokeOf}
 use Rattle.pixels.specs.Answer.{sidesTooLarge}
 use Rattle.pixels.specs.Post.{Sized, entered, Drawn, closed, Closed}
-use Rattle.pixels.proofs.Outside.{neither}
 use Rattle.pixels.proofs.Accepted.{Accepted, sized-x, sized-y}
 use Rattle.pixels.proofs.Writing.{closed-length}
 

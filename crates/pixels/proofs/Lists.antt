@@ -4,13 +4,13 @@ use mathlib.Core.Bool.{Bool, true, false}
 use mathlib.Core.List.{List, [], _∷_, _++_, map, map-append}
 use Prim.Native.Nat.{ℕ, zero, suc, _+_, _≤_}
 use native.Mathlib.Omega.{arith}
-use lib.ListN.{length, set, length-append}
+use lib.ListN.{length, length-append}
 use Rattle.types.specs.declared.shape.Vec2.{Vec2}
 use Rattle.lists.specs.Places.{upto}
 use Rattle.pixels.specs.declared.axis.Axis.{Axis}
 use Rattle.pixels.specs.Walk.{position}
 use Rattle.pixels.specs.Entries.{onImage, number, keepIf, kept, pixels}
-use Rattle.pixels.specs.Post.{oneIf, setIf, entered}
+use Rattle.pixels.specs.Post.{oneIf, entered}
 
 -- ---- one position more
 

@@ -1,15 +1,15 @@
 -- A walk with steps of 1 or -1 on one of its axes is outside its ranges after 131,074 steps: that coordinate has passed 65,537, where its range
 -- ends at the latest. Assumes nothing.
-use mathlib.Core.Path.{_≡_, refl, sym, ap, _∙_, subst}
-use mathlib.Core.Bool.{Bool, true, false, not, _&&_, _||_, true≢false}
+use mathlib.Core.Path.{_≡_, refl, sym, _∙_, subst}
+use mathlib.Core.Bool.{Bool, true, false, _&&_}
 use mathlib.Core.Logic.{_⊎_, inl, inr}
-use Prim.Native.Nat.{ℕ, zero, suc, _+_, _*_, _≤_, _<_}
-use native.Mathlib.Nat.{add-comm}
+use Prim.Native.Nat.{ℕ, zero, suc, _+_, _≤_, _<_}
 use native.Mathlib.Omega.{arith}
 use borrow.Author.Tests.{not-true}
-use lib.Dec.{ltb}
-use lib.Ieee.{Float, nan, inf, fin, up, down, neg, lt}
+use lib.Ieee.{Float, neg, lt}
 use Rattle.float.specs.Rounded.{_⊕_}
+use Rattle.float.proofs.Negated.{neg-lt}
+use Rattle.float.proofs.Tests.{neither}
 use Rattle.rounded.specs.Size.{Size}
 use Rattle.rounded.proofs.Sizes.{size-wider, neg-size, add-size}
 use Rattle.rounded.proofs.Step.{Past, Under, unit, directed, under-of-size, past-of-size, step, past-under, under-not}
@@ -48,37 +48,13 @@ past-at {a} z m (suc k) h =
     (subst (λ (j : ℕ). Past j (directed s (at a k ⊕ unit s))) e
     (step s (65536 + k) (at a k) (past-at z m k (omega arith)) (under-of-size 8388608 (directed s (at a k)) (directed-size s 8388608 (at a k) u))))
 
-lt-neg : (x y : Float) → lt (neg y) (neg x) ≡ lt x y
-unfolding lt neg
-lt-neg nan nan = refl
-lt-neg nan (inf t) = refl
-lt-neg nan (fin t n d) = refl
-lt-neg (inf s) nan = refl
-lt-neg (inf true) (inf true) = refl
-lt-neg (inf true) (inf false) = refl
-lt-neg (inf false) (inf true) = refl
-lt-neg (inf false) (inf false) = refl
-lt-neg (inf true) (fin t n d) = refl
-lt-neg (inf false) (fin t n d) = refl
-lt-neg (fin s m e) nan = refl
-lt-neg (fin s m e) (inf true) = refl
-lt-neg (fin s m e) (inf false) = refl
-lt-neg (fin true m e) (fin true n d) = refl
-lt-neg (fin true m e) (fin false n d) = ap (λ (z : ℕ). ltb 0 z) (add-comm (n * up d * down e) (m * up e * down d))
-lt-neg (fin false m e) (fin true n d) = refl
-lt-neg (fin false m e) (fin false n d) = refl
-
-pub neither : (a b : Bool) → (a || b) ≡ false → (a ≡ false) × (b ≡ false)
-neither true b e = absurd (true≢false e)
-neither false b e = (refl, e)
-
 -- within its range it is at most 65,537 in the direction of its steps
 within-under : {a : Axis} → Sized a → (s : Bool) (j : ℕ) (x : Float) → Past j (directed s x) → within a x ≡ true → Under 65537 (directed s x)
 unfolding within
 within-under {a} z false j x p w = under-not j 65537 x (a .high) p (under-of-size 65537 (a .high) (z .high-size)) (neither (lt x (a .low)) (lt (a .high) x) (not-true _ w) .1)
 within-under {a} z true j x p w =
     under-not j 65537 (neg x) (neg (a .low)) p (under-of-size 65537 (neg (a .low)) (neg-size 65537 (a .low) (z .low-size)))
-    (lt-neg x (a .low) ∙ neither (lt x (a .low)) (lt (a .high) x) (not-true _ w) .0)
+    (neg-lt (a .low) x ∙ neither (lt x (a .low)) (lt (a .high) x) (not-true _ w) .0)
 
 few : {a : Axis} → Sized a → Major a → (k : ℕ) → k ≤ mostSteps → within a (at a k) ≡ true → k < mostSteps
 few {a} z m k h w =

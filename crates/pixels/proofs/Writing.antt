@@ -6,8 +6,7 @@ use Prim.Native.Nat.{ℕ, suc, _+_, _-_, _≤_, _<_}
 use native.Mathlib.Nat.{add-zero}
 use native.Mathlib.Numerals.{add-one}
 use native.Mathlib.Omega.{arith}
-use lib.ListN.{length, getD, set, drop, length-append, length-drop}
-use lib.Seq.{drop-cons, set-at, append-snoc}
+use lib.ListN.{length, set, drop, length-append, length-drop}
 use Rattle.types.specs.declared.shape.Vec2.{Vec2}
 use Rattle.pixels.specs.declared.axis.Axis.{Axis}
 use Rattle.pixels.specs.declared.walk.Reached.{Reached}

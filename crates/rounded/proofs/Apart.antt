@@ -2,19 +2,20 @@
 use mathlib.Core.Path.{_≡_, refl, sym, ap, _∙_, subst}
 use mathlib.Core.Bool.{Bool, true, false, not, _&&_, _||_, cond, Bool·beq, true≢false}
 use mathlib.Core.Logic.{_⊎_, inl, inr}
-use Prim.Native.Nat.{ℕ, zero, suc, _+_, _-_, _*_, _%_, _^_, _≤_, _<_}
-use native.Mathlib.Nat.{le-trans, le-of-eq, zero-lt-suc, mul-one, one-mul, zero-mul, mul-pos, mul-comm, mul-assoc, mul-zero, mul-add, mul-sub, suc-mul, mul-le-mul, eq-or-lt-of-le}
-use native.Mathlib.Decide.{decLe}
+use Prim.Native.Nat.{ℕ, zero, suc, _+_, _-_, _*_, _^_, _≤_, _<_}
+use native.Mathlib.Nat.{le-trans, le-of-eq, zero-lt-suc, one-mul, zero-mul, mul-pos, mul-comm, mul-assoc, mul-right-comm, add-mul, mul-sub, suc-mul, eq-or-lt-of-le}
 use native.Mathlib.Omega.{arith}
 use borrow.Author.Tests.{ltb-true, ltb-false, eq-eqb}
-use lib.IntN.{ℤ, pos, negsuc}
-use lib.Pow.{pow-pos, pow-add}
-use lib.Dec.{T, leb, ltb, eqb, leb→le, eqb→eq, lit≤}
+use lib.IntN.{negsuc}
+use lib.Pow.{pow-pos}
+use lib.Dec.{T, ltb, eqb, eqb→eq}
 use lib.Ieee.{Float, nan, inf, fin, binary32, up, down, round, neg, sum, add, sub, lt, le, eq, fits}
-use lib.Ieee.Fits.{down-pos, and-l, and-r}
+use lib.Ieee.Fits.{down-pos, and-r}
 use lib.Ieee.Order.{round-mono}
 use Rattle.float.specs.Rounded.{_⊖_}
-use Rattle.rounded.proofs.Round.{le-num, round-neg}
+use Rattle.float.proofs.Negated.{neg-round}
+use Rattle.float.proofs.Units.{InUnits, in-units}
+use Rattle.rounded.proofs.Round.{le-num}
 use Rattle.rounded.specs.Size.{Size}
 
 -- a number that is not zero
@@ -62,66 +63,41 @@ nonzero-round s a c p h = go s
 
     go : (s : Bool) → NonZero (round binary32 s a c)
     go false = plain
-    go true = subst (λ (z : Float). NonZero z) (round-neg binary32 false a c) (nonzero-neg (round binary32 false a c) plain)
+    go true = subst (λ (z : Float). NonZero z) (neg-round binary32 false a c) (nonzero-neg (round binary32 false a c) plain)
 
 -- ---- the exact difference is at least 2 ^ -149
-
--- the denominators are powers of two: one is a multiple of the other
-multiple : (d e : ℤ) → ((g : ℕ) × (down d ≡ g * down e)) ⊎ ((g : ℕ) × (down e ≡ g * down d))
-multiple (pos i) e = inr (down e, sym (mul-one (down e)))
-multiple (negsuc j) (pos i) = inl (2 ^ suc j, sym (mul-one (2 ^ suc j)))
-multiple (negsuc j) (negsuc i) = elim (decLe i j) [
-  | yes p ↦ inl (2 ^ (j - i), ap (λ (k : ℕ). 2 ^ k) (let q : suc j ≡ j - i + suc i = omega arith in q) ∙ pow-add 2 (j - i) (suc i))
-  | no p ↦ inr (2 ^ (i - j), ap (λ (k : ℕ). 2 ^ k) (let q : suc i ≡ i - j + suc j = omega arith in q) ∙ pow-add 2 (i - j) (suc j))
-]
-
-at-least : (r E R : ℕ) → R ≡ E * r → 0 < R → E ≤ R
-at-least zero E R e h = absurd (omega (arith, mul-zero E))
-at-least (suc r) E R e h = omega (arith, mul-comm E (suc r), suc-mul r E)
 
 -- the sum of A and B, or the difference of the two
 abbrev OneOf : ℕ → ℕ → ℕ → Type 0
 OneOf A B R = (R ≡ A + B) ⊎ ((R ≡ A - B) ⊎ (R ≡ B - A))
 
-coarse : (P Q D E g R : ℕ) → D ≡ g * E → OneOf (P * D) (Q * E) R → 0 < R → E ≤ R
-coarse P Q D E g R m f h = go f
+at-least : (r C R : ℕ) → R ≡ r * C → 0 < R → C ≤ R
+at-least zero C R e h = absurd (omega (arith, zero-mul C))
+at-least (suc r) C R e h = omega (arith, suc-mul r C)
+
+sub-mul : (a b c : ℕ) → (a - b) * c ≡ a * c - b * c
+sub-mul a b c = mul-comm (a - b) c ∙ mul-sub c a b ∙ omega (arith, mul-comm c a, mul-comm c b)
+
+-- P / E and Q / D are whole multiples of 1 / U, and so is their sum or difference R / (D * E)
+enough : (P Q D E U X Y R : ℕ) → 0 < U → P * U ≡ X * E → Q * U ≡ Y * D → OneOf (P * D) (Q * E) R → 0 < R → D * E ≤ R * U
+enough P Q D E U X Y R u p q f h = go f
   where
-    a : P * D ≡ E * (P * g)
-    a = ap (λ (z : ℕ). P * z) m ∙ sym (mul-assoc P g E) ∙ mul-comm (P * g) E
+    C : ℕ
+    C = D * E
 
-    go : OneOf (P * D) (Q * E) R → E ≤ R
-    go (inl f) = at-least (P * g + Q) E R (omega (arith, a, mul-comm Q E, mul-add E (P * g) Q)) h
-    go (inr (inl f)) = at-least (P * g - Q) E R (omega (arith, a, mul-comm Q E, mul-sub E (P * g) Q)) h
-    go (inr (inr f)) = at-least (Q - P * g) E R (omega (arith, a, mul-comm Q E, mul-sub E Q (P * g))) h
+    first : P * D * U ≡ X * C
+    first = mul-right-comm P D U ∙ ap (λ (z : ℕ). z * D) p ∙ mul-right-comm X E D ∙ mul-assoc X D E
 
-turn : (A B R : ℕ) → OneOf A B R → OneOf B A R
-turn A B R (inl f) = inl (omega arith)
-turn A B R (inr (inl f)) = inr (inr f)
-turn A B R (inr (inr f)) = inr (inl f)
+    second : Q * E * U ≡ Y * C
+    second = mul-right-comm Q E U ∙ ap (λ (z : ℕ). z * E) q ∙ mul-assoc Y D E
 
-enough :
-    (P Q : ℕ) (d e : ℤ) (R : ℕ) →
-    down d ≤ 2 ^ 149 →
-    down e ≤ 2 ^ 149 →
-    OneOf (P * down d) (Q * down e) R →
-    0 < R →
-    down d * down e ≤ R * 2 ^ 149
-enough P Q d e R ld le f h = elim (multiple d e) [
-  | inl w ↦ le-trans (le-of-eq (mul-comm (down d) (down e))) (mul-le-mul (coarse P Q (down d) (down e) (w .0) R (w .1) f h) ld)
-  | inr w ↦ mul-le-mul (coarse Q P (down e) (down d) (w .0) R (w .1) (turn (P * down d) (Q * down e) R f) h) le
-]
+    scaled : {z : ℕ} → R ≡ z → R * U ≡ z * U
+    scaled e = ap (λ (k : ℕ). k * U) e
 
--- an f32 is a multiple of 2 ^ -149
-fits-down : (s : Bool) (m : ℕ) (e : ℤ) → T (fits binary32 (fin s m e)) → down e ≤ 2 ^ 149
-unfolding fits
-fits-down s zero (pos k) f = lit≤ tt
-fits-down s zero (negsuc k) f = le-trans (le-of-eq (sym (one-mul (2 ^ suc k)) ∙ eqb→eq (1 * 2 ^ suc k) 1 f)) (lit≤ tt)
-fits-down s (suc m) e f =
-    let a = eqb (suc m % 2) 1 in
-    let b = ltb (suc m) (2 ^ 24) in
-    let c = leb (down e) (2 ^ 149) in
-    let d = ltb (suc m * up e) (2 ^ 128 * down e) in
-    leb→le (down e) (2 ^ 149) (and-r (a && b) c (and-l (a && b && c) d f))
+    go : OneOf (P * D) (Q * E) R → C ≤ R * U
+    go (inl e) = at-least (X + Y) C (R * U) (scaled e ∙ omega (arith, add-mul (P * D) (Q * E) U, add-mul X Y C, first, second)) (mul-pos h u)
+    go (inr (inl e)) = at-least (X - Y) C (R * U) (scaled e ∙ omega (arith, sub-mul (P * D) (Q * E) U, sub-mul X Y C, first, second)) (mul-pos h u)
+    go (inr (inr e)) = at-least (Y - X) C (R * U) (scaled e ∙ omega (arith, sub-mul (Q * E) (P * D) U, sub-mul Y X C, first, second)) (mul-pos h u)
 
 -- ---- the two together
 
@@ -150,10 +126,16 @@ apart (fin s m e) (fin t n d) k l f g a b h = go s t h
     C : ℕ
     C = down d * down e
 
+    x : InUnits m e
+    x = in-units s m e f
+
+    y : InUnits n d
+    y = in-units t n d g
+
     nonzero : (z : Bool) (R : ℕ) → OneOf A B R → 0 < R → NonZero (round binary32 z R C)
     nonzero z R o p =
         nonzero-round z R C (mul-pos (down-pos d) (down-pos e))
-        (enough (m * up e) (n * up d) d e R (fits-down t n d g) (fits-down s m e f) o p)
+        (enough (m * up e) (n * up d) (down d) (down e) (2 ^ 149) (m * 2 ^ x .places) (n * 2 ^ y .places) R (pow-pos 149) (x .exact) (y .exact) o p)
 
     less : (s t u : Bool) → Float
     less s t u = cond u (round binary32 (not s) (A - B) C) (round binary32 (t && ltb A B) (B - A) C)

@@ -1,35 +1,18 @@
--- Rounding to f32: the sign goes through it, and a fraction between two whole numbers rounds to a value between them. Assumes nothing.
-use mathlib.Core.Path.{_≡_, refl, sym, ap, _∙_, subst}
-use mathlib.Core.Bool.{Bool, true, false, not, _&&_, _||_, cond, true≢false}
+-- A fraction between two whole numbers rounds to an f32 between them. Assumes nothing.
+use mathlib.Core.Path.{_≡_, refl, sym, subst}
+use mathlib.Core.Bool.{Bool, true, false, _&&_, _||_, true≢false}
 use mathlib.Core.Logic.{_⊎_, inl, inr}
-use Prim.Native.Nat.{ℕ, zero, suc, _+_, _*_, _^_, _≤_, _<_}
+use Prim.Native.Nat.{ℕ, _*_, _^_, _≤_, _<_}
 use native.Mathlib.Nat.{le-trans, le-of-eq, le-of-lt, mul-one, le-of-mul-le-mul-right}
 use lib.IntN.{ℤ}
 use lib.Dec.{T, ltb, eqb, ltb→lt, eqb→eq, lit≤}
-use lib.Ieee.{Float, nan, inf, fin, Format, binary32, prec, low, emax, up, down, odd, units, round, neg, le, lt, eq}
-use lib.Ieee.Fits.{round-is, down-pos, and-l}
+use lib.Ieee.{Float, nan, inf, fin, binary32, up, down, round, neg, le, lt, eq}
+use lib.Ieee.Fits.{down-pos, and-l}
 use lib.Ieee.Exact.{HasValue}
 use lib.Ieee.Order.{round-mono, transfer}
 use lib.Ieee.Scale.{finite, round-under, round-val}
 use lib.Ieee.Back.{round-whole}
-
--- ---- the sign
-
-odd-neg : (d : ℕ) (s : Bool) (q k l : ℕ) → neg (odd d s q k l) ≡ odd d (not s) q k l
-unfolding odd neg
-odd-neg d s zero k l = refl
-odd-neg d s (suc q) k l = refl
-
-units-neg : (f : Format) (s : Bool) (q k : ℕ) → neg (units f s q k) ≡ units f (not s) q k
-unfolding units
-units-neg f s q k = go (ltb (q * 2 ^ k) (2 ^ (low f + suc (emax f))))
-  where
-    go : (b : Bool) → neg (cond b (odd (suc (prec f)) s q k (low f)) (inf s)) ≡ cond b (odd (suc (prec f)) (not s) q k (low f)) (inf (not s))
-    go true = odd-neg (suc (prec f)) s q k (low f)
-    go false = unfold neg in refl
-
-pub round-neg : (f : Format) (s : Bool) (a c : ℕ) → neg (round f s a c) ≡ round f (not s) a c
-round-neg f s a c = ap neg (round-is f s a c) ∙ units-neg f s _ _ ∙ sym (round-is f (not s) a c)
+use Rattle.float.proofs.Negated.{neg-round}
 
 -- ---- the order, of values that are not negative
 
@@ -114,4 +97,4 @@ neg-mag p q (fin false m e) h = (refl, h .1, h .2)
 
 pub round-mag-neg : (a c p q : ℕ) → 0 < c → p * c ≤ a → a ≤ q * c → q ≤ 2 ^ 24 → Mag true p q (round binary32 true a c)
 round-mag-neg a c p q C lo hi top =
-    subst (λ (z : Float). Mag true p q z) (round-neg binary32 false a c) (neg-mag p q (round binary32 false a c) (round-mag a c p q C lo hi top))
+    subst (λ (z : Float). Mag true p q z) (neg-round binary32 false a c) (neg-mag p q (round binary32 false a c) (round-mag a c p q C lo hi top))

@@ -13,6 +13,7 @@ use lib.Ieee.Fits.{down-pos, up-pos}
 use lib.Ieee.Scale.{round-same}
 use Rattle.float.specs.Rounded.{_⊘_}
 use Rattle.float.specs.Values.{absOf, maxOf}
+use Rattle.float.proofs.Negated.{unlike-plus}
 use Rattle.rounded.proofs.Sizes.{round-size}
 use Rattle.rounded.specs.Size.{Size}
 use Rattle.rounded.proofs.Step.{unit}
@@ -33,12 +34,8 @@ quot-unit s m e h =
     let A = m * up e * down e in
     let p : 0 < A = mul-pos (mul-pos h (up-pos e)) (down-pos e) in
     let z : eqb m 0 ≡ false = ne-eqb m 0 (λ q. omega arith) in
-    rw z (ap (λ (t : Bool). round binary32 t A A) (same s) ∙ round-same binary32 s A A 1 1 p (lit≤ tt) (simp (mul-one, one-mul)) ∙ one s)
+    rw z (ap (λ (t : Bool). round binary32 t A A) (unlike-plus s) ∙ round-same binary32 s A A 1 1 p (lit≤ tt) (simp (mul-one, one-mul)) ∙ one s)
   where
-    same : (s : Bool) → unlike s false ≡ s
-    same true = refl
-    same false = refl
-
     one : (s : Bool) → round binary32 s 1 1 ≡ unit s
     one true = unfold round in refl
     one false = unfold round in refl

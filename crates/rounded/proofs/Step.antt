@@ -12,7 +12,8 @@ use lib.Dec.{ltb, lit≤}
 use lib.Ieee.{Float, nan, inf, fin, binary32, up, down, round, neg, sum, add, lt}
 use lib.Ieee.Fits.{down-pos}
 use Rattle.float.specs.Rounded.{_⊕_}
-use Rattle.rounded.proofs.Round.{round-neg, Mag, round-mag, round-mag-neg}
+use Rattle.float.proofs.Negated.{neg-round}
+use Rattle.rounded.proofs.Round.{Mag, round-mag, round-mag-neg}
 use Rattle.rounded.specs.Size.{Size}
 
 -- whole numbers are counted from -2 ^ 17, so that they are not negative
@@ -136,7 +137,7 @@ back j nan h u = h
 back j (inf s) h u = h
 back j (fin true m e) h u =
     simp (mul-one, one-mul)
-    (subst (λ (z : Float). Past (suc j) z) (sym (round-neg binary32 true (m * up e + down e) (down e))) (step-up j (m * up e) (down e) (down-pos e) h u))
+    (subst (λ (z : Float). Past (suc j) z) (sym (neg-round binary32 true (m * up e + down e) (down e))) (step-up j (m * up e) (down e) (down-pos e) h u))
 back j (fin false m e) h u = simp (mul-one, one-mul) (go (ltb (m * up e) (down e)) refl)
   where
     go :
@@ -144,10 +145,10 @@ back j (fin false m e) h u = simp (mul-one, one-mul) (go (ltb (m * up e) (down e
         b ≡ ltb (m * up e) (down e) →
         Past (suc j) (neg (cond b (round binary32 true (down e - m * up e) (down e)) (round binary32 false (m * up e - down e) (down e))))
     go true q =
-        subst (λ (z : Float). Past (suc j) z) (sym (round-neg binary32 true (down e - m * up e) (down e)))
+        subst (λ (z : Float). Past (suc j) z) (sym (neg-round binary32 true (down e - m * up e) (down e)))
         (step-zero j (m * up e) (down e) (down-pos e) h (ltb-true _ _ (sym q)))
     go false q =
-        subst (λ (z : Float). Past (suc j) z) (sym (round-neg binary32 false (m * up e - down e) (down e)))
+        subst (λ (z : Float). Past (suc j) z) (sym (neg-round binary32 false (m * up e - down e) (down e)))
         (step-down j (m * up e) (down e) true (down-pos e) h (ltb-false _ _ (sym q)) (λ f. absurd (true≢false f)))
 
 -- up to 2 ^ 23 in that direction

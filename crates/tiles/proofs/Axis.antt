@@ -20,7 +20,8 @@ use Rattle.tiles.specs.Sheet.{edge, OnAxis, OwnsAt}
 use Rattle.tiles.specs.Cover.{F32, Between, NotTiny}
 use Rattle.tiles.specs.Tiles.{from, past, firstPlace, pastPlace, placeCount}
 use Rattle.tiles.proofs.Accepted.{Taken}
-use Rattle.tiles.proofs.InUnits.{units-of-value, whole-value, value-finite}
+use Rattle.float.proofs.Units.{units-of-value}
+use Rattle.tiles.proofs.Wholes.{whole-value, value-finite}
 use Rattle.tiles.proofs.Floor.{floor-quotient}
 use Rattle.tiles.proofs.Order.{side, ≤ℤ-trans, ≤ℤ-<ℤ-trans, <→≤ℤ, pos-le, pos-lt, le-pos, lt-pos}
 

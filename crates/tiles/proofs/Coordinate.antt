@@ -15,7 +15,7 @@ use Rattle.float.specs.Units.{inUnits}
 use Rattle.float.specs.Values.{absOf}
 use Rattle.tiles.specs.Answer.{badCoordinate}
 use Rattle.tiles.proofs.Multiples.{lt-or-ge}
-use Rattle.tiles.proofs.InUnits.{in-units, units-exact}
+use Rattle.float.proofs.Units.{in-units, units-exact}
 
 -- 2 ^ 20
 abbrev pub highest : Float

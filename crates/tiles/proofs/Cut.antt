@@ -14,7 +14,7 @@ use lib.Ieee.Nearest.{div-same}
 use borrow.Author.Tests.{ltb-true, ltb-false}
 use Rattle.float.specs.Units.{signed}
 use Rattle.tiles.specs.Tiles.{floorInt, past}
-use Rattle.tiles.proofs.InUnits.{units-of-value}
+use Rattle.float.proofs.Units.{units-of-value}
 use Rattle.tiles.proofs.Divided.{Small, part-le}
 
 -- 0, and the ends of what `truncating_f32_to_u64` takes

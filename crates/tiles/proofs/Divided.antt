@@ -1,5 +1,5 @@
 -- A finite f32 divided by a whole number s and rounded has the value that proofs/Quotient.antt speaks of. Assumes nothing.
-use mathlib.Core.Path.{_≡_, refl, sym, ap, _∙_, subst}
+use mathlib.Core.Path.{_≡_, sym, ap, _∙_, subst}
 use mathlib.Core.Logic.{inl, inr}
 use mathlib.Core.Bool.{Bool, true, false, true≢false}
 use Prim.Native.Nat.{ℕ, zero, suc, _-_, _*_, _/_, _%_, _^_, _≤_, _<_, compare}
@@ -8,7 +8,7 @@ use native.Mathlib.Nat.{mul-one, mul-comm, mul-assoc, mul-left-comm, mul-right-c
 use lib.Dec.{T, lit≤, lit<, eqb·suc-zero}
 use lib.Pow.{pow-pos}
 use lib.IntN.{ℤ, pos}
-use lib.Ieee.{Float, nan, inf, fin, binary32, unlike, up, down, size, round, div, ofInt, fits}
+use lib.Ieee.{Float, nan, inf, fin, binary32, up, down, size, round, div, ofInt, fits}
 use lib.Ieee.Back.{round-whole}
 use lib.Ieee.Digits.{size-le}
 use lib.Ieee.Exact.{HasValue, units-val}
@@ -18,9 +18,10 @@ use lib.Ieee.Order.{drop, kept}
 use lib.Ieee.Scale.{round-same, grid}
 use Rattle.float.specs.Rounded.{_⊘_}
 use Rattle.float.specs.Units.{inUnits}
+use Rattle.float.proofs.Negated.{unlike-plus}
 use Rattle.tiles.proofs.Multiples.{lt-or-ge}
 use Rattle.tiles.proofs.Quotient.{rounded, drops, agree}
-use Rattle.tiles.proofs.InUnits.{in-units, units-are, units-exact}
+use Rattle.float.proofs.Units.{in-units, units-are, units-exact}
 use Rattle.tiles.proofs.Accepted.{Taken}
 
 -- ---- `round` by its value
@@ -38,10 +39,6 @@ round-value : (s : Bool) (a c : ℕ) → grid binary32 a c < 2 ^ 277 → HasValu
 round-value s a c h = rw round-is (units-val binary32 s (kept 24 (a * 2 ^ 149) c) (drop 24 (a * 2 ^ 149) c) h)
 
 -- ---- the quotient by an f32 that is s
-
-unlike-plus : (a : Bool) → unlike a false ≡ a
-unlike-plus true = refl
-unlike-plus false = refl
 
 div-is : (a : Bool) (m : ℕ) (e : ℤ) (y : Float) (s : ℕ) → 0 < s → HasValue y false s 1 → fin a m e ⊘ y ≡ round binary32 a (m * up e) (s * down e)
 unfolding div
@@ -85,7 +82,7 @@ unfolding ofInt
 quotient-value b m e s t top S C =
     let X = inUnits (fin b m e) in
     let u = in-units b m e t in
-    let r : rounded X s ≤ 2 ^ 169 = rounded-le X s m (u .j) S (u .short) (units-are b m e u) top in
+    let r : rounded X s ≤ 2 ^ 169 = rounded-le X s m (u .places) S (u .few) (units-are b m e u) top in
     let c : m * up e * 2 ^ 149 * s ≡ X * (s * down e) = ap (λ (x : ℕ). x * s) (units-exact b m e u) ∙ mul-right-comm X (down e) s ∙ mul-assoc X s (down e) in
     let g : grid binary32 (m * up e) (s * down e) ≡ rounded X s = same-grid 24 (m * up e * 2 ^ 149) (s * down e) X s (mul-pos S (down-pos e)) S c in
     let d = div-is b m e (round binary32 false s 1) s S (round-whole binary32 false s (le-trans C (lit≤ tt))) in

@@ -15,7 +15,7 @@ use Rattle.float.specs.Units.{signed, inUnits, unitsOf}
 use Rattle.tiles.specs.Tiles.{place}
 use Rattle.tiles.specs.Cover.{NotTiny}
 use Rattle.tiles.proofs.Quotient.{rounded, drops, Agree, agree}
-use Rattle.tiles.proofs.InUnits.{in-units, units-are, units-of-value}
+use Rattle.float.proofs.Units.{in-units, units-are, units-of-value}
 use Rattle.tiles.proofs.Divided.{quotient-value}
 use Rattle.tiles.proofs.Accepted.{Taken}
 
@@ -76,4 +76,4 @@ floor-quotient (fin b m e) s t z S C =
     let u = in-units b m e (t .0 .0) in
     let v = quotient-value b m e s (t .0 .0) (t .1) S C in
     ap (λ (z : ℤ). shrZ z (2 ^ 149)) (units-of-value (fin b m e ⊘ ofInt binary32 (pos s)) b (rounded X s) (v .0))
-    ∙ floor-of b X s m (u .j) S C (u .short) (units-are b m e u) (t .1) z
+    ∙ floor-of b X s m (u .places) S C (u .few) (units-are b m e u) (t .1) z

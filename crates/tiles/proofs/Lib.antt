@@ -1,7 +1,7 @@
 mod Multiples
 mod Closest
 mod Quotient
-mod InUnits
+mod Wholes
 mod Divided
 mod Floor
 mod Coordinate

@@ -1,10 +1,10 @@
 -- Multiples of a number, and of powers of two: where two differ, they differ by how much at least. Assumes nothing.
-use mathlib.Core.Path.{_≡_, sym, ap, _∙_}
+use mathlib.Core.Path.{_≡_, _∙_}
 use mathlib.Core.Logic.{_⊎_, inl, inr}
 use Prim.Native.Nat.{ℕ, zero, suc, _+_, _-_, _*_, _^_, _≤_, _<_, zero-le, suc-le-suc}
-use native.Mathlib.Nat.{le-of-lt, zero-lt-suc, mul-assoc, suc-mul, sub-add-cancel, mul-le-mul-right, lt-of-mul-lt-mul-right}
+use native.Mathlib.Nat.{le-of-lt, zero-lt-suc, suc-mul, mul-le-mul-right, lt-of-mul-lt-mul-right}
 use native.Mathlib.Omega.{arith}
-use lib.Pow.{pow-add}
+use Rattle.float.proofs.Units.{multiple}
 
 pub lt-or-ge : (a b : ℕ) → (a < b) ⊎ (b ≤ a)
 lt-or-ge a zero = inr zero-le
@@ -18,12 +18,7 @@ apart a b d e f l =
     let q : suc a * d ≡ a * d + d = suc-mul a d in
     omega arith
 
--- a multiple of 2 ^ i is one of each lesser power
-pub multiple : (n i k : ℕ) → k ≤ i → n * 2 ^ i ≡ n * 2 ^ (i - k) * 2 ^ k
-multiple n i k h =
-    ap (λ (x : ℕ). n * 2 ^ x) (sym (sub-add-cancel h)) ∙ ap (λ (x : ℕ). n * x) (pow-add 2 (i - k) k) ∙ sym (mul-assoc n (2 ^ (i - k)) (2 ^ k))
-
--- so a multiple of 2 ^ i and one of 2 ^ k that differ do so by more than an h that is below both powers
+-- a multiple of 2 ^ i and one of 2 ^ k that differ do so by more than an h that is below both powers
 pub gap : (a i b k h : ℕ) {M N : ℕ} → M ≡ a * 2 ^ i → N ≡ b * 2 ^ k → h < 2 ^ i → h < 2 ^ k → M < N → M + h < N
 gap a i b k h e f I K l = elim (lt-or-ge i k) [
   | inl g ↦ let p = apart a (b * 2 ^ (k - i)) (2 ^ i) e (f ∙ multiple b k i (le-of-lt g)) l in omega arith

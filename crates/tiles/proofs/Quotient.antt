@@ -16,7 +16,8 @@ use lib.Ieee.{size}
 use lib.Ieee.Digits.{size-lt, size-reaches}
 use lib.Ieee.Nearest.{closest}
 use Rattle.tiles.proofs.Closest.{closest-within}
-use Rattle.tiles.proofs.Multiples.{lt-or-ge, apart, multiple, gap}
+use Rattle.float.proofs.Units.{multiple}
+use Rattle.tiles.proofs.Multiples.{lt-or-ge, apart, gap}
 
 -- what the quotient drops of its digits, and what it is rounded to: `grid` of lib.Ieee.Scale for the fraction X / s of units
 abbrev pub drops : ℕ → ℕ → ℕ

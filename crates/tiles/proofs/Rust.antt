@@ -22,7 +22,7 @@ use Rattle.rounding.specs.Values.{sizeDown, sizeUp, wholeOf, floorOf}
 use Rattle.tiles.specs.Tiles.{floorInt}
 use Rattle.tiles.specs.Rust.{SamePlace}
 use Rattle.tiles.proofs.Accepted.{taken}
-use Rattle.tiles.proofs.InUnits.{units-of-value}
+use Rattle.float.proofs.Units.{units-of-value}
 use Rattle.tiles.proofs.Divided.{Small, small-quotient, part-le}
 
 -- ---- a whole number up to 2 ^ 20, as a float, cut to an i32

@@ -1,6 +1,6 @@
 -- `pixels::first_offender` meets its contract: each answer by the tests that led there. Assumes nothing.
 use mathlib.Core.Path.{_≡_, sym, _∙_}
-use mathlib.Core.Bool.{true, false}
+use mathlib.Core.Bool.{true}
 use borrow.Author.Needs.{needs}
 use borrow.Author.Tests.{not-true, not-false}
 use Rattle.pixels.specs.Answer.{withinLimit, firstOffender}
