@@ -1,8 +1,8 @@
 -- `floorOf` and `ceilOf` are IEEE 754's roundToIntegralTowardNegative and TowardPositive, and nothing else is. Assumes nothing.
 use mathlib.Core.Path.{_≡_, refl, sym, ap, _∙_, subst}
 use mathlib.Core.Bool.{Bool, true, false, not}
-use Prim.Native.Nat.{ℕ, zero, suc, _*_, _<_, _≤_}
-use native.Mathlib.Nat.{mul-one, mul-pos, zero-mul}
+use Prim.Native.Nat.{ℕ, zero, suc, _*_, _≤_}
+use native.Mathlib.Nat.{mul-one}
 use native.Mathlib.Omega.{arith}
 use lib.IntN.{ℤ, pos, negsuc, negℤ, _*ℤ_}
 use lib.Signed.{leZ}
@@ -16,56 +16,11 @@ use Rattle.rounding.specs.Values.{sizeDown, sizeUp, wholeOf, floorOf, ce
 use Rattle.float.specs.Units.{signed}
 use Rattle.rounding.specs.Integral.{sign, Equal, atMost, atLeast, TowardNegative, TowardPositive}
 use Rattle.rounding.specs.Promise.{RoundsToIntegral}
+use Rattle.rounding.proofs.Integers.{neg-le, neg-back, neg-under, both-zero, scaled, no-less, size, size-signed, size-times, same-whole}
 use Rattle.rounding.proofs.Whole.{ceil-by-floor}
 use Rattle.rounding.proofs.Ends.{down-greatest, up-least, down-exact, up-exact}
 
--- ---- the order of negated numbers
-
-neg-le : (a b : ℕ) → b ≤ a → T (leZ (negℤ (pos a)) (negℤ (pos b)))
-neg-le zero zero h = tt
-neg-le zero (suc b) h = absurd (omega arith)
-neg-le (suc a) zero h = tt
-neg-le (suc a) (suc b) h = le→leb b a (omega arith)
-
-neg-back : (a b : ℕ) → T (leZ (negℤ (pos a)) (negℤ (pos b))) → b ≤ a
-neg-back zero zero h = omega arith
-neg-back zero (suc b) h = absurd h
-neg-back (suc a) zero h = omega arith
-neg-back (suc a) (suc b) h = omega (arith, leb→le b a h)
-
-neg-under : (a b : ℕ) → T (leZ (negℤ (pos a)) (pos b))
-neg-under zero b = le→leb 0 b (omega arith)
-neg-under (suc a) b = tt
-
--- a number above zero is at most no negated one but 0
-both-zero : (a b : ℕ) → T (leZ (pos a) (negℤ (pos b))) → (a ≡ 0) × (b ≡ 0)
-both-zero a zero h = (omega (arith, leb→le a 0 h), refl)
-both-zero a (suc b) h = absurd h
-
-scaled : (n d : ℕ) → signed true n *ℤ pos d ≡ negℤ (pos (n * d))
-scaled zero d = ap pos (zero-mul d) ∙ ap (λ (k : ℕ). negℤ (pos k)) (sym (zero-mul d))
-scaled (suc n) d = refl
-
-no-less : (j d : ℕ) → 0 < d → suc j * d ≡ 0 → ⊥
-no-less j d p h = omega (arith, mul-pos {m = suc j} {n = d} (omega arith) p)
-
 -- ---- a float whose value is a whole number, by its sign and size
-
-abbrev size : ℤ → ℕ
-size (pos n) = n
-size (negsuc n) = suc n
-
-size-neg : (n : ℕ) → size (negℤ (pos n)) ≡ n
-size-neg zero = refl
-size-neg (suc n) = refl
-
-size-signed : (s : Bool) (n : ℕ) → size (signed s n) ≡ n
-size-signed false n = refl
-size-signed true n = size-neg n
-
-size-times : (k : ℤ) (d : ℕ) → size (k *ℤ pos d) ≡ size k * d
-size-times (pos n) d = refl
-size-times (negsuc n) d = size-neg (suc n * d)
 
 whole : (s : Bool) (n : ℕ) (r : Float) → HasValue r s n 1 → Equal (signed s n) r × (sign r ≡ s)
 whole s n nan v = absurd v
@@ -162,12 +117,6 @@ ceil-is (fin true m e) f h =
     }
 
 -- ---- one result only
-
-same-whole : (a b : ℤ) → T (leZ a b) → T (leZ b a) → a ≡ b
-same-whole (pos a) (pos b) h k = ap pos (omega (arith, leb→le a b h, leb→le b a k))
-same-whole (pos a) (negsuc b) h k = absurd h
-same-whole (negsuc a) (pos b) h k = absurd k
-same-whole (negsuc a) (negsuc b) h k = ap negsuc (omega (arith, leb→le b a h, leb→le a b k))
 
 one-value : (a b : ℤ) (r q : Float) → T (fits binary32 r) → T (fits binary32 q) → sign r ≡ sign q → a ≡ b → Equal a r → Equal b q → r ≡ q
 one-value a b r q f g signs is v w =
