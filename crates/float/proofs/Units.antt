@@ -5,7 +5,7 @@ use Prim.Native.Nat.{ℕ, zero, suc, _+_, _-_, _*_, _%_, _^_, _≤_, _<_}
 use native.Mathlib.Nat.{lt-of-not-le, not-le-of-lt, le-of-suc-le-suc, mul-one, mul-assoc, sub-add-cancel, mul-div-cancel, mul-le-mul-right, le-of-mul-le-mul-right}
 use lib.IntN.{ℤ, pos, negsuc}
 use lib.Dec.{T, leb, ltb, eqb, leb→le, ltb→lt, lit<, lit≤}
-use lib.Pow.{pow-add, pow-lt, pow-pos}
+use lib.Pow.{pow-add, pow-lt, pow-mono, pow-pos}
 use lib.Ieee.{Float, nan, inf, fin, binary32, up, down, lt, fits}
 use lib.Ieee.Exact.{HasValue}
 use lib.Ieee.Fits.{and-l, and-r, down-pos}
@@ -15,7 +15,10 @@ use borrow.Author.Tests.{ltb-true, ltb-false, lt-ltb, le-ltb}
 use Rattle.float.specs.Units.{signed, inUnits, unitsOf}
 use Rattle.float.proofs.Sign.{one-zero}
 
--- ---- multiples of a power of two
+-- ---- powers of two, and their multiples
+
+pub pow-lt-back : (a l : ℕ) → 2 ^ a < 2 ^ l → a < l
+pow-lt-back a l h = lt-of-not-le (λ (g : l ≤ a). not-le-of-lt h (pow-mono g))
 
 pub pow-le-back : (a l : ℕ) → 2 ^ a ≤ 2 ^ l → a ≤ l
 pow-le-back a l h = le-of-suc-le-suc (lt-of-not-le (λ (g : suc l ≤ a). not-le-of-lt (pow-lt g) h))

@@ -3,11 +3,11 @@ use mathlib.Core.Path.{_≡_, sym, ap, _∙_, subst}
 use mathlib.Core.Bool.{Bool, true, false, not, cond}
 use mathlib.Core.Logic.{inl, inr}
 use Prim.Native.Nat.{ℕ, zero, suc, _+_, _-_, _*_, _/_, _%_, _^_, _<_, _≤_}
-use native.Mathlib.Nat.{le-trans, le-of-eq, lt-of-lt-of-le, lt-of-le-of-lt, lt-of-not-le, lt-irrefl, le-add-right, add-comm, mul-comm, mul-right-comm, mul-le-mul-right, mul-lt-mul-of-pos-right, le-of-mul-le-mul-right, lt-of-mul-lt-mul-right, mod-eq-of-lt, eq-or-lt-of-le}
+use native.Mathlib.Nat.{le-trans, le-of-eq, lt-of-lt-of-le, lt-of-le-of-lt, le-add-right, add-comm, mul-comm, mul-right-comm, mul-le-mul-right, mul-lt-mul-of-pos-right, le-of-mul-le-mul-right, lt-of-mul-lt-mul-right, mod-eq-of-lt, eq-or-lt-of-le}
 use native.Mathlib.Omega.{arith}
 use lib.IntN.{ℤ}
 use lib.Dec.{T, eqb, leb, lit≤}
-use lib.Pow.{pow-pos, pow-add, pow-mono, shl-lt, shl-shr, shr-shr}
+use lib.Pow.{pow-pos, pow-add, shl-lt, shl-shr, shr-shr}
 use lib.Ieee.{Float, nan, inf, fin, binary32, up, down, ofFields, ofBits, toBits, fits, isNan, le, lt, toUnsigned}
 use lib.Ieee.Bits.{ofBits-toBits}
 use lib.Ieee.Exact.{HasValue}
@@ -17,6 +17,7 @@ use lib.Ieee.Scale.{finite}
 use borrow.Author.Tests.{leb-false}
 use Rattle.float.specs.Fields.{fieldUnits}
 use Rattle.float.proofs.Fields.{field-value, field-top}
+use Rattle.float.proofs.Units.{pow-lt-back}
 use Rattle.rounding.proofs.Sizes.{pow2, Under, under, part, unsigned, over-zero, one-size}
 
 -- ---- the field of a number is not the highest
@@ -32,9 +33,6 @@ record Cut (j t n : ℕ) : Type 0 where
   low : 127 ≤ j
   high : j ≤ 150
   shifted : (t + 2 ^ 23) / 2 ^ (150 - j) ≡ n
-
-pow-lt-back : (i p : ℕ) → 2 ^ i < 2 ^ p → i < p
-pow-lt-back i p h = lt-of-not-le (λ (g : p ≤ i). lt-irrefl (2 ^ i) (lt-of-lt-of-le h (pow-mono g)))
 
 shifted-down : (q j : ℕ) → j ≤ 149 → q / 2 ^ (149 - j) ≡ q * 2 ^ j / 2 ^ 149
 shifted-down q j h =
