@@ -1,6 +1,7 @@
 -- A box's size, and boxes moved, scaled and transformed, each operation rounded. Definitions only.
+use mathlib.Core.Bool.{true, false}
 use mathlib.Core.List.{List, [], _∷_}
-use lib.Ieee.{Float, neg}
+use lib.Ieee.{Float, inf, neg}
 use Rattle.types.specs.declared.shape.Vec2.{Vec2}
 use Rattle.types.specs.declared.shape.Aabb2.{Aabb2}
 use Rattle.types.specs.declared.shape.Mat3.{Mat3}
@@ -10,8 +11,8 @@ use Rattle.types.specs.declared.answer.Boxed.{Boxed}
 use Rattle.types.specs.declared.answer.Boxed.the-variants.{Some, Refused}
 use Rattle.float.specs.Rounded.{_⊕_, _⊖_, _⊗_, _⊘_, +0, half, one}
 use Rattle.float.specs.Values.{maxOf}
-use Rattle.float.specs.Folds.{leastOf, greatestOf}
 use Rattle.mat3.specs.Values as mat3
+use Rattle.aabb2_from.specs.From.{fromTwoAabbsOf}
 use Rattle.aabb.specs.Inside.{middle, centerOf}
 
 abbrev pub maxEdgeSizeOf : Aabb2 → Float
@@ -31,42 +32,25 @@ cornersOf b =
     ∷ corner (b .«max_x») (b .«max_y»)
     ∷ []
 
--- the box around points; a NaN drops out
-unfoldable pub xs : List Vec2 → List Float
-xs [] = []
-xs (p ∷ ps) = p .x ∷ xs ps
+-- the box of no points, and that of one
+abbrev pub noPointsOf : Aabb2
+noPointsOf = record { «min_x» = inf false; «min_y» = inf false; «max_x» = inf true; «max_y» = inf true }
 
-unfoldable pub ys : List Vec2 → List Float
-ys [] = []
-ys (p ∷ ps) = p .y ∷ ys ps
+abbrev pub pointOf : Vec2 → Aabb2
+pointOf p = record { «min_x» = p .x; «min_y» = p .y; «max_x» = p .x; «max_y» = p .y }
 
-abbrev pub boxAround : List Vec2 → Aabb2
-boxAround ps = record { «min_x» = leastOf (xs ps); «min_y» = leastOf (ys ps); «max_x» = greatestOf (xs ps); «max_y» = greatestOf (ys ps) }
+-- a box widened to hold an image, in which a NaN drops out; refusal 8 where a corner has no image
+unfoldable pub withImageOf : Boxed → Image → Boxed
+withImageOf (Refused n) i = Refused n
+withImageOf (Some b) image.None = Refused 8
+withImageOf (Some b) (image.Some p) = Some (fromTwoAabbsOf b (pointOf p))
 
-abbrev pub hullOf : Vec2 → Vec2 → Vec2 → Vec2 → Aabb2
-hullOf p0 p1 p2 p3 = boxAround (p0 ∷ p1 ∷ p2 ∷ p3 ∷ [])
-
--- the images of points, or missing where one has none
-pub data Images : Type 0 where
-  missing : Images
-  images : List Vec2 → Images
-
-unfoldable pub withImage : Image → Images → Images
-withImage image.None is = missing
-withImage (image.Some q) missing = missing
-withImage (image.Some q) (images qs) = images (q ∷ qs)
-
-unfoldable pub imagesOf : Mat3 → List Vec2 → Images
-imagesOf m [] = images []
-imagesOf m (p ∷ ps) = withImage (mat3.transformHomogeneousOf m p) (imagesOf m ps)
-
--- refusal 8 where a corner has no image
-unfoldable pub boxed : Images → Boxed
-boxed missing = Refused 8
-boxed (images qs) = Some (boxAround qs)
+unfoldable pub withImages : Mat3 → Boxed → List Vec2 → Boxed
+withImages m b [] = b
+withImages m b (p ∷ ps) = withImages m (withImageOf b (mat3.transformHomogeneousOf m p)) ps
 
 unfoldable pub transformHomogeneousOf : Aabb2 → Mat3 → Boxed
-transformHomogeneousOf b m = boxed (imagesOf m (cornersOf b))
+transformHomogeneousOf b m = withImages m (Some noPointsOf) (cornersOf b)
 
 -- ---- moved and scaled
 

@@ -5,10 +5,9 @@ use types::Image;
 use types::Mat3;
 use types::Vec2;
 ghost use mathlib.Core.Path.{_≡_};
-ghost use mathlib.Core.List.{[], _∷_};
-ghost use Rattle.float.specs.Folds.{leastOf, greatestOf};
+ghost use Rattle.mat3.specs.Values as mat3;
 ghost use Rattle.aabb.specs.Inside.{centerOf};
-ghost use Rattle.aabb2_change.specs.Change.{maxEdgeSizeOf, transformHomogeneousOf, toTransformationWorld2unitOrthoPreserveAspOf, scaleOf, translateOf, hullOf};
+ghost use Rattle.aabb2_change.specs.Change.{maxEdgeSizeOf, transformHomogeneousOf, toTransformationWorld2unitOrthoPreserveAspOf, scaleOf, translateOf, corner, noPointsOf, withImageOf};
 
 pub fn center(b: Aabb2) -> Vec2
     ensures { λ r. ⌜ r ≡ centerOf b ⌝ }
@@ -23,71 +22,53 @@ pub fn max_edge_size(b: Aabb2) -> f32
     float::max(b.max_x - b.min_x, b.max_y - b.min_y)
 }
 
-fn least(a: f32, b: f32, c: f32, d: f32) -> f32
-    ensures { λ r. ⌜ r ≡ leastOf (a ∷ b ∷ c ∷ d ∷ []) ⌝ }
-{
-    float::min(float::min(float::min(float::min(1.0 / 0.0, a), b), c), d)
-}
-
-fn greatest(a: f32, b: f32, c: f32, d: f32) -> f32
-    ensures { λ r. ⌜ r ≡ greatestOf (a ∷ b ∷ c ∷ d ∷ []) ⌝ }
-{
-    float::max(float::max(float::max(float::max(-1.0 / 0.0, a), b), c), d)
-}
-
-// The box around four points.
-fn hull(p0: Vec2, p1: Vec2, p2: Vec2, p3: Vec2) -> Aabb2
-    ensures { λ r. ⌜ r ≡ hullOf p0 p1 p2 p3 ⌝ }
+// The box of no points.
+fn no_points() -> Aabb2
+    ensures { λ r. ⌜ r ≡ noPointsOf ⌝ }
 {
     Aabb2 {
-        min_x: least(p0.x, p1.x, p2.x, p3.x),
-        min_y: least(p0.y, p1.y, p2.y, p3.y),
-        max_x: greatest(p0.x, p1.x, p2.x, p3.x),
-        max_y: greatest(p0.y, p1.y, p2.y, p3.y),
+        min_x: 1.0 / 0.0,
+        min_y: 1.0 / 0.0,
+        max_x: -1.0 / 0.0,
+        max_y: -1.0 / 0.0,
     }
+}
+
+// A box widened to hold a corner's image. A corner with no image is refused.
+fn with_image(b: Boxed, image: Image) -> Boxed
+    ensures { λ r. ⌜ r ≡ withImageOf b image ⌝ }
+{
+    match b {
+        Boxed::Refused(n) => Boxed::Refused(n),
+        Boxed::Some(held) => match image {
+            Image::None => Boxed::Refused(types::refusal::NO_IMAGE),
+            Image::Some(p) => Boxed::Some(aabb2_from::from_two_aabbs(
+                held,
+                Aabb2 {
+                    min_x: p.x,
+                    min_y: p.y,
+                    max_x: p.x,
+                    max_y: p.y,
+                },
+            )),
+        },
+    }
+}
+
+fn image(m: Mat3, x: f32, y: f32) -> Image
+    ensures { λ r. ⌜ r ≡ mat3.transformHomogeneousOf m (corner x y) ⌝ }
+{
+    mat3::transform_homogeneous(m, Vec2 { x, y })
 }
 
 // The box around the images of the four corners. A corner with no image is refused.
 pub fn transform_homogeneous(b: Aabb2, m: Mat3) -> Boxed
     ensures { λ r. ⌜ r ≡ transformHomogeneousOf b m ⌝ }
 {
-    let Image::Some(p0) = mat3::transform_homogeneous(
-        m,
-        Vec2 {
-            x: b.min_x,
-            y: b.min_y,
-        },
-    ) else {
-        return Boxed::Refused(types::refusal::NO_IMAGE);
-    };
-    let Image::Some(p1) = mat3::transform_homogeneous(
-        m,
-        Vec2 {
-            x: b.min_x,
-            y: b.max_y,
-        },
-    ) else {
-        return Boxed::Refused(types::refusal::NO_IMAGE);
-    };
-    let Image::Some(p2) = mat3::transform_homogeneous(
-        m,
-        Vec2 {
-            x: b.max_x,
-            y: b.min_y,
-        },
-    ) else {
-        return Boxed::Refused(types::refusal::NO_IMAGE);
-    };
-    let Image::Some(p3) = mat3::transform_homogeneous(
-        m,
-        Vec2 {
-            x: b.max_x,
-            y: b.max_y,
-        },
-    ) else {
-        return Boxed::Refused(types::refusal::NO_IMAGE);
-    };
-    Boxed::Some(hull(p0, p1, p2, p3))
+    let one = with_image(Boxed::Some(no_points()), image(m, b.min_x, b.min_y));
+    let two = with_image(one, image(m, b.min_x, b.max_y));
+    let three = with_image(two, image(m, b.max_x, b.min_y));
+    with_image(three, image(m, b.max_x, b.max_y))
 }
 
 // The transform that takes the box into the unit square, both axes scaled alike, the centre to the square's.
