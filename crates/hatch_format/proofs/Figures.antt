@@ -1,0 +1,51 @@
+-- Small files, and what is read of each: every refusal, in the table's order, and a file that is accepted. Computed. Assumes nothing.
+use mathlib.Core.Path.{_≡_, refl}
+use mathlib.Core.List.{List, [], _∷_, _++_, map}
+use Prim.Native.Nat.{ℕ}
+use lib.ListN.{replicate}
+use Rattle.lists.specs.Places.{upto}
+use Rattle.hatch_format.specs.Bytes.{startsWith}
+use Rattle.hatch_format.specs.Format.{hsl, rows, layoutOf, sizedOf, versionedOf, headOf}
+use Rattle.hatch_format.specs.Decode.{Answer, refused, accepted, bodyOf, decode}
+
+-- a header, by the low and the high byte of version and count
+abbrev pub head : ℕ → ℕ → ℕ → ℕ → List ℕ
+head v v′ n n′ = 72 ∷ 83 ∷ 76 ∷ v ∷ v′ ∷ n ∷ n′ ∷ []
+
+-- a file with one record, whose bytes are 1, 2, 3, 4 over and over
+abbrev pub word : List ℕ
+word = 1 ∷ 2 ∷ 3 ∷ 4 ∷ []
+
+abbrev pub single : List ℕ
+single = head 1 0 1 0 ++ word ++ word ++ word ++ word ++ word ++ word ++ word ++ word
+
+record Figure : Type 0 where
+  bytes : List ℕ
+  answer : Answer
+
+figures : List Figure
+figures =
+    record { bytes = []; answer = refused 10 }
+    ∷ record { bytes = 72 ∷ 83 ∷ []; answer = refused 10 }
+    -- `HSE` and a byte
+    ∷ record { bytes = 72 ∷ 83 ∷ 69 ∷ 1 ∷ []; answer = refused 10 }
+    ∷ record { bytes = 72 ∷ 83 ∷ 76 ∷ []; answer = refused 13 }
+    -- too short comes before a version that there is not
+    ∷ record { bytes = 72 ∷ 83 ∷ 76 ∷ 2 ∷ 0 ∷ 0 ∷ []; answer = refused 13 }
+    ∷ record { bytes = head 2 0 0 0; answer = refused 11 }
+    ∷ record { bytes = head 1 1 0 0; answer = refused 11 }
+    -- the version comes before the count of 2,001, and that before the length
+    ∷ record { bytes = head 0 0 209 7; answer = refused 11 }
+    ∷ record { bytes = head 1 0 209 7; answer = refused 12 }
+    -- 2,000 are not too many
+    ∷ record { bytes = head 1 0 208 7; answer = refused 13 }
+    -- a byte too many, and one too few
+    ∷ record { bytes = head 1 0 0 0 ++ (0 ∷ []); answer = refused 13 }
+    ∷ record { bytes = head 1 0 1 0 ++ replicate 31 0; answer = refused 13 }
+    ∷ record { bytes = head 1 0 0 0; answer = accepted 1 0 [] }
+    ∷ record { bytes = single; answer = accepted 1 1 (replicate 8 0x0403_0201) }
+    ∷ []
+
+figures-right : map (λ (f : Figure). decode hsl rows (f .bytes)) figures ≡ map (λ (f : Figure). f .answer) figures
+unfolding figures startsWith upto layoutOf sizedOf versionedOf headOf bodyOf decode
+figures-right = refl

@@ -1,0 +1,59 @@
+-- The records of an accepted file, read one at a time. Assumes nothing.
+use mathlib.Core.Path.{_≡_, refl, sym, ap, _∙_}
+use mathlib.Core.Bool.{Bool, true, false, cond}
+use mathlib.Core.List.{List, [], _∷_, _++_}
+use Prim.Native.Nat.{ℕ, zero, suc, _+_, _*_, _/_, _%_, _<_, _≤_}
+use native.Mathlib.Decide.{decLe}
+use native.Mathlib.Omega.{arith}
+use native.Mathlib.Nat.{mul-le-mul-left, mul-add, mul-one}
+use lib.Dec.{ltb}
+use lib.ListN.{length, getD, replicate, List·getD-append}
+use lib.Seq.{getD-at}
+use borrow.Author.Tests.{le-ltb}
+use Rattle.lists.specs.Places.{upto}
+use Rattle.lists.proofs.Fill.{length-upto}
+use Rattle.hatch_format.specs.Bytes.{halfAt, wordFrom}
+use Rattle.hatch_format.specs.Format.{rows, headOf}
+use Rattle.hatch_format.specs.Decode.{recordPlace, patternAt, recordBitsOf, Holds}
+use Rattle.hatch_format.specs.declared.header.Row.{Row}
+use Rattle.hatch_format.specs.declared.header.Head.the-variants.{Accepted}
+use Rattle.hatch_format.proofs.Table.{Fine, fine, found}
+use Rattle.hatch_format.proofs.Accepted.{accepted-file}
+
+-- an accepted file is whole, whatever its mark
+pub held : (mark b : List ℕ) (r : Row) (n : ℕ) → headOf mark rows b ≡ Accepted r n → Holds (r .width) n b
+held mark b r n e =
+    let f = accepted-file mark rows b r n e in
+    record { whole = f .whole; wide = found Fine rows (halfAt b 3) r fine (f .row) .0 .wide }
+
+pub getD-upto : {A : Type 0} (f : ℕ → A) (d : A) (n i : ℕ) → i < n → getD (upto f n) i d ≡ f i
+unfolding upto
+getD-upto f d zero i h = absurd (omega arith)
+getD-upto f d (suc n) i h = elim (decLe n i) [
+  | yes a ↦ let e : n ≡ i = omega arith in getD-at (upto f n) (f n) [] d i (length-upto f n ∙ e) ∙ ap f e
+  | no b ↦ List·getD-append (upto f n) (f n ∷ []) d i (omega (arith, length-upto f n)) ∙ getD-upto f d n i (omega arith)
+]
+
+pub record-length : (b : List ℕ) (at : ℕ) → length (recordBitsOf b at) ≡ 8
+unfolding recordBitsOf
+record-length b at = go (ltb (length b) (at + 32))
+  where
+    go : (t : Bool) → length (cond t (replicate 8 0) (upto (wordFrom b at) 8)) ≡ 8
+    go true = refl
+    go false = length-upto (wordFrom b at) 8
+
+module _ (width n : ℕ) (b : List ℕ) (h : Holds width n b) (i : ℕ) (g : i < n) where
+  -- record i lies within the file
+  pub within : recordPlace width i + 32 ≤ length b
+  within =
+      let m : width * (i + 1) ≤ width * n = mul-le-mul-left width (omega arith) in
+      omega (arith, m, mul-add width i 1, mul-one width, h .whole, h .wide)
+
+  -- and its floats are the next eight of the file
+  pub record-pattern : (j : ℕ) → j < 8 → getD (recordBitsOf b (recordPlace width i)) j 0 ≡ patternAt width b (8 * i + j)
+  unfolding recordBitsOf
+  record-pattern j k =
+      let d : (8 * i + j) / 8 ≡ i = omega arith in
+      let m : (8 * i + j) % 8 ≡ j = omega arith in
+      rw (le-ltb (length b) (recordPlace width i + 32) within)
+      (getD-upto (wordFrom b (recordPlace width i)) 0 8 j k ∙ sym (ap (λ (x : ℕ). wordFrom b (recordPlace width x) ((8 * i + j) % 8)) d ∙ ap (wordFrom b (recordPlace width i)) m))

@@ -1,0 +1,47 @@
+-- What a file says: the floats of its records, eight each and of any bits. Definitions only.
+use mathlib.Core.Path.{_≡_}
+use mathlib.Core.Bool.{cond}
+use mathlib.Core.List.{List}
+use Prim.Native.Nat.{ℕ, _+_, _*_, _/_, _%_, _≤_}
+use lib.Dec.{ltb}
+use lib.ListN.{length, replicate}
+use lib.Ieee.{Float, binary32, ofBits}
+use Rattle.lists.specs.Places.{upto}
+use Rattle.hatch_format.specs.Bytes.{wordFrom}
+use Rattle.hatch_format.specs.Format.{headOf}
+use Rattle.hatch_format.specs.declared.header.Row.{Row}
+use Rattle.hatch_format.specs.declared.header.Head.{Head}
+use Rattle.hatch_format.specs.declared.header.Head.the-variants.{Refused, Accepted}
+
+-- where record i starts
+abbrev pub recordPlace : ℕ → ℕ → ℕ
+recordPlace width i = 7 + width * i
+
+-- float k of the file, as its bits: a record starts with its eight floats
+abbrev pub patternAt : ℕ → List ℕ → ℕ → ℕ
+patternAt width b k = wordFrom b (recordPlace width (k / 8)) (k % 8)
+
+-- and the float whose bits they are
+abbrev pub floatOf : ℕ → Float
+floatOf p = ofBits binary32 p
+
+-- what a file says: the number of a refusal, or version, count and the floats' bits
+pub data Answer : Type 0 where
+  refused : ℕ → Answer
+  accepted : ℕ → ℕ → List ℕ → Answer
+
+unfoldable pub bodyOf : Head → List ℕ → Answer
+bodyOf (Refused number) b = refused number
+bodyOf (Accepted r n) b = accepted (r .version) n (upto (patternAt (r .width) b) (8 * n))
+
+unfoldable pub decode : List ℕ → List Row → List ℕ → Answer
+decode mark table b = bodyOf (headOf mark table b) b
+
+-- the bits of the eight floats of the record at a byte: zeros where the bytes end before it does
+unfoldable pub recordBitsOf : List ℕ → ℕ → List ℕ
+recordBitsOf b at = cond (ltb (length b) (at + 32)) (replicate 8 0) (upto (wordFrom b at) 8)
+
+-- the bytes are a header and n records of so many bytes, each of which holds its floats
+pub record Holds (width n : ℕ) (b : List ℕ) : Type 0 where
+  pub whole : length b ≡ 7 + width * n
+  pub wide : 32 ≤ width

@@ -1,0 +1,41 @@
+-- The header of a hatch list: a mark of three bytes, a 16-bit version at byte 3, a 16-bit count n at byte 5, and from byte 7 on n records, each of
+-- as many bytes as the version's row says. The refusals stand in document 01's order. Definitions only.
+use mathlib.Core.Bool.{cond}
+use mathlib.Core.List.{List, [], _∷_}
+use Prim.Native.Nat.{ℕ, _+_, _*_}
+use lib.Dec.{eqb, ltb}
+use lib.ListN.{length}
+use Rattle.hatch_format.specs.Bytes.{halfAt, startsWith}
+use Rattle.hatch_format.specs.declared.header.Row.{Row}
+use Rattle.hatch_format.specs.declared.header.Layout.{Layout}
+use Rattle.hatch_format.specs.declared.header.Layout.the-variants.{Unknown, Known}
+use Rattle.hatch_format.specs.declared.header.Head.{Head}
+use Rattle.hatch_format.specs.declared.header.Head.the-variants.{Refused, Accepted}
+
+-- the bytes `HSL`
+abbrev pub hsl : List ℕ
+hsl = 72 ∷ 83 ∷ 76 ∷ []
+
+-- the versions: the bytes of a record, and the most records
+abbrev pub rows : List Row
+rows = record { version = 1; width = 32; limit = 2000 } ∷ []
+
+unfoldable pub layoutOf : List Row → ℕ → Layout
+layoutOf [] v = Unknown
+layoutOf (r ∷ rs) v = cond (eqb (r .version) v) (Known r) (layoutOf rs v)
+
+-- 12 for the count, then 13 for the length
+unfoldable pub sizedOf : Row → ℕ → ℕ → Head
+sizedOf r size n = cond (ltb (r .limit) n) (Refused 12) (cond (eqb size (7 + r .width * n)) (Accepted r n) (Refused 13))
+
+-- 11 for the version
+unfoldable pub versionedOf : Layout → ℕ → ℕ → Head
+versionedOf Unknown size n = Refused 11
+versionedOf (Known r) size n = sizedOf r size n
+
+-- 10 for the mark, then 13 for bytes that have no room for a version and a count
+unfoldable pub headOf : List ℕ → List Row → List ℕ → Head
+headOf mark table b =
+    cond (startsWith mark b)
+    (cond (ltb (length b) 7) (Refused 13) (versionedOf (layoutOf table (halfAt b 3)) (length b) (halfAt b 5)))
+    (Refused 10)

@@ -1,0 +1,4 @@
+pub mod Bytes
+pub mod Format
+pub mod Decode
+pub mod HatchList

@@ -1,0 +1,80 @@
+// The header of a hatch list: mark, version and count, and the length that follows from them.
+use crate::bytes::half;
+use crate::bytes::starts_with;
+ghost use mathlib.Core.Path.{_≡_};
+ghost use Prim.Native.Nat.{_<_};
+ghost use Rattle.hatch_format.specs.Format.{rows, layoutOf, sizedOf, headOf};
+
+pub const HSL: [u8; 3] = [b'H', b'S', b'L'];
+
+const VERSION_AT: usize = 3;
+
+const COUNT_AT: usize = 5;
+
+pub const RECORDS_AT: usize = 7;
+
+// A version, the bytes of one of its records, and the most records.
+pub struct Row {
+    pub version: usize,
+    pub width: usize,
+    pub limit: usize,
+}
+
+// The row of a version, where the table has one.
+pub enum Layout {
+    Unknown,
+    Known(Row),
+}
+
+// The number of a refusal, or the row of the file's version and the count.
+pub enum Head {
+    Refused(u32),
+    Accepted { row: Row, count: usize },
+}
+
+fn layout_of(version: usize) -> Layout
+    ensures { λ r. ⌜ r ≡ layoutOf rows version ⌝ }
+{
+    if version == 1 {
+        Layout::Known(Row {
+            version: 1,
+            width: 32,
+            limit: 2000,
+        })
+    } else {
+        Layout::Unknown
+    }
+}
+
+// Tests the count, then the length.
+fn sized(row: Row, size: usize, count: usize) -> Head
+    requires { ⌜ (row .width < 65536) × (count < 65536) ⌝ }
+    ensures { λ r. ⌜ r ≡ sizedOf row size count ⌝ }
+{
+    if row.limit < count {
+        return Head::Refused(types::refusal::COUNT);
+    }
+    if size == RECORDS_AT + row.width * count {
+        Head::Accepted { row, count }
+    } else {
+        Head::Refused(types::refusal::LENGTH)
+    }
+}
+
+// What the header says of a file with this mark, or the first refusal.
+pub fn head_of(mark: &[u8], bytes: &[u8]) -> Head
+    ensures { λ r. ⌜ r ≡ headOf (now (mark .entry)) rows (now (bytes .entry)) ⌝ }
+{
+    if !starts_with(bytes, mark) {
+        return Head::Refused(types::refusal::MARK);
+    }
+    if bytes.len() < RECORDS_AT {
+        return Head::Refused(types::refusal::LENGTH);
+    }
+    let version = half(bytes, VERSION_AT);
+    let count = half(bytes, COUNT_AT);
+    match layout_of(version) {
+        Layout::Unknown => Head::Refused(types::refusal::VERSION),
+        Layout::Known(row) => sized(row, bytes.len(), count),
+    }
+}

@@ -1,0 +1,33 @@
+-- `hatch_read::head_within` meets its contract: eight floats a record have room where the count is at most an eighth. Assumes nothing.
+use borrow.Author.Needs.{needs}
+use Rattle.hatch_read.proofs.Room.{stays-refused, no-room, has-room}
+use Rattle.hatch_read.proofs.head_within.Statement.{statement}
+use Rattle.hatch_read.proofs.head_within.Tie as tie
+
+slice-aggregate-head-of : tie.Need-slice-aggregate-head-of
+slice-aggregate-head-of c = search needs
+
+head-of-requires : tie.Need-head-of-requires
+head-of-requires c κs = search needs
+
+enum-known-number : tie.Need-enum-known-number
+enum-known-number c = search needs
+
+enum-known-row : tie.Need-enum-known-row
+enum-known-row c = search needs
+
+returns : tie.Need-returns
+returns c = stays-refused _ (c .before .before .before .head-of .ensures) (c .before .number .given .1)
+
+returns-2 : tie.Need-returns-2
+returns-2 c =
+    let accepted = c .before .before in
+    no-room _ (accepted .before .before .head-of .ensures) (accepted .row .given .1) (c .if1 .taken)
+
+returns-3 : tie.Need-returns-3
+returns-3 c =
+    let accepted = c .before .before in
+    has-room _ (accepted .before .before .head-of .ensures) (accepted .row .given .1) (c .if1 .left)
+
+pub head-within-spec : {M : Type 1} → statement M
+head-within-spec = tie.close (tie.spec slice-aggregate-head-of head-of-requires enum-known-number enum-known-row returns returns-2 returns-3)

@@ -1,0 +1,130 @@
+// The records of a hatch list, read into a lent list of their floats' bits or of the floats, eight a record.
+use hatch_format::HSL;
+use hatch_format::Head;
+use hatch_format::RECORDS_AT;
+ghost use mathlib.Core.Path.{_≡_};
+ghost use mathlib.Core.List.{map};
+ghost use Prim.Native.Nat.{_+_, _*_, _≤_};
+ghost use lib.ListN.{length};
+ghost use lib.Seq.{paste};
+ghost use Rattle.hatch_format.specs.Format.{hsl, rows, headOf};
+ghost use Rattle.hatch_format.specs.Decode.{floatOf, Holds};
+ghost use Rattle.hatch_read.specs.Read.{recordCountOf, withRoom, decodeInto, itself, readOf, listOf};
+ghost use Rattle.hatch_read.specs.Loading.{filled};
+
+// What became of a file. On a refusal the list keeps its contents.
+pub enum Read {
+    Refused(u32),
+    Accepted { version: usize, count: usize },
+}
+
+// The records of a list of floats; an incomplete last one does not count.
+pub fn record_count(floats: &[f32]) -> usize
+    ensures { λ r. ⌜ r ≡ recordCountOf (now (floats .entry)) ⌝ }
+{
+    floats.len() / 8
+}
+
+// The header, for a list of `room` entries, which has to hold eight floats a record.
+fn head_within(bytes: &[u8], room: usize) -> Head
+    ensures { λ r. ⌜ r ≡ withRoom room (headOf hsl rows (now (bytes .entry))) ⌝ }
+{
+    match hatch_format::head_of(&HSL, bytes) {
+        Head::Refused(number) => Head::Refused(number),
+        Head::Accepted { row, count } => {
+            if room / 8 < count {
+                Head::Refused(types::refusal::ROOM)
+            } else {
+                Head::Accepted { row, count }
+            }
+        }
+    }
+}
+
+// Puts a record at the entries from `at` on.
+fn put_patterns(patterns: [u32; 8], out: &mut [u32], at: usize)
+    requires { ⌜ at + 8 ≤ length (now out) ⌝ }
+    ensures { λ _. ⌜ now (out .exit) ≡ paste (now (out .entry)) at (map itself patterns) 8 ⌝ }
+{
+    let mut j = 0;
+    while j < 8 {
+        out[at + j] = patterns[j];
+        j += 1;
+    }
+}
+
+fn put_floats(patterns: [u32; 8], out: &mut [f32], at: usize)
+    requires { ⌜ at + 8 ≤ length (now out) ⌝ }
+    ensures { λ _. ⌜ now (out .exit) ≡ paste (now (out .entry)) at (map floatOf patterns) 8 ⌝ }
+{
+    let mut j = 0;
+    while j < 8 {
+        out[at + j] = bits::of_bits(patterns[j]);
+        j += 1;
+    }
+}
+
+// Fills the first entries, eight for each record.
+fn load_patterns(bytes: &[u8], width: usize, count: usize, out: &mut [u32])
+    requires { ⌜ Holds width count (now bytes) × (8 * count ≤ length (now out)) ⌝ }
+    ensures { λ _. ⌜ now (out .exit) ≡ filled itself width (now (bytes .entry)) (8 * count) (now (out .entry)) ⌝ }
+{
+    let mut i = 0;
+    while i < count {
+        put_patterns(
+            hatch_format::record_bits(bytes, RECORDS_AT + width * i),
+            out,
+            8 * i,
+        );
+        i += 1;
+    }
+}
+
+fn load_floats(bytes: &[u8], width: usize, count: usize, out: &mut [f32])
+    requires { ⌜ Holds width count (now bytes) × (8 * count ≤ length (now out)) ⌝ }
+    ensures { λ _. ⌜ now (out .exit) ≡ filled floatOf width (now (bytes .entry)) (8 * count) (now (out .entry)) ⌝ }
+{
+    let mut i = 0;
+    while i < count {
+        put_floats(
+            hatch_format::record_bits(bytes, RECORDS_AT + width * i),
+            out,
+            8 * i,
+        );
+        i += 1;
+    }
+}
+
+// Reads each float as its bits, the stored form of a record: only there a NaN keeps its bits.
+pub fn read_patterns(bytes: &[u8], out: &mut [u32]) -> Read
+    ensures { λ r. ⌜ r ≡ readOf (decodeInto hsl rows (length (now (out .entry))) (now (bytes .entry))) ⌝ }
+    ensures { λ r. ⌜ now (out .exit) ≡ listOf itself (decodeInto hsl rows (length (now (out .entry))) (now (bytes .entry))) (now (out .entry)) ⌝ }
+{
+    match head_within(bytes, out.len()) {
+        Head::Refused(number) => Read::Refused(number),
+        Head::Accepted { row, count } => {
+            load_patterns(bytes, row.width, count, out);
+            Read::Accepted {
+                version: row.version,
+                count,
+            }
+        }
+    }
+}
+
+// Reads the floats whose bits these are; every NaN pattern gives the one NaN.
+pub fn read_floats(bytes: &[u8], out: &mut [f32]) -> Read
+    ensures { λ r. ⌜ r ≡ readOf (decodeInto hsl rows (length (now (out .entry))) (now (bytes .entry))) ⌝ }
+    ensures { λ r. ⌜ now (out .exit) ≡ listOf floatOf (decodeInto hsl rows (length (now (out .entry))) (now (bytes .entry))) (now (out .entry)) ⌝ }
+{
+    match head_within(bytes, out.len()) {
+        Head::Refused(number) => Read::Refused(number),
+        Head::Accepted { row, count } => {
+            load_floats(bytes, row.width, count, out);
+            Read::Accepted {
+                version: row.version,
+                count,
+            }
+        }
+    }
+}
