@@ -1,5 +1,5 @@
 // What a read of a hatch list answers, as C sees it: the version and the number of records, or a refusal's number and zeros.
-use hatch::Read;
+use hatch_read::Read;
 ghost use mathlib.Core.Path.{_≡_};
 ghost use Rattle.c_hatch.specs.Answer.{ofRead};
 
@@ -14,15 +14,15 @@ pub fn read(a: Read) -> ReadAnswer
     ensures { λ r. ⌜ r ≡ ofRead a ⌝ }
 {
     match a {
-        Read::Records { version, count } => ReadAnswer {
-            status: 0,
-            version,
-            count,
-        },
         Read::Refused(status) => ReadAnswer {
             status,
             version: 0,
             count: 0,
+        },
+        Read::Accepted { version, count } => ReadAnswer {
+            status: 0,
+            version,
+            count,
         },
     }
 }

@@ -1,7 +1,7 @@
 -- The records of an accepted file, read one at a time. Assumes nothing.
 use mathlib.Core.Path.{_≡_, refl, sym, ap, _∙_}
 use mathlib.Core.Bool.{Bool, true, false, cond}
-use mathlib.Core.List.{List, [], _∷_, _++_}
+use mathlib.Core.List.{List, [], _∷_, _++_, map}
 use Prim.Native.Nat.{ℕ, zero, suc, _+_, _*_, _/_, _%_, _<_, _≤_}
 use native.Mathlib.Decide.{decLe}
 use native.Mathlib.Omega.{arith}
@@ -14,7 +14,7 @@ use Rattle.lists.specs.Places.{upto}
 use Rattle.lists.proofs.Fill.{length-upto}
 use Rattle.hatch_format.specs.Bytes.{halfAt, wordFrom}
 use Rattle.hatch_format.specs.Format.{rows, headOf}
-use Rattle.hatch_format.specs.Decode.{recordPlace, patternAt, recordBitsOf, Holds}
+use Rattle.hatch_format.specs.Decode.{recordPlace, patternAt, patternsOf, recordBitsOf, Holds}
 use Rattle.hatch_format.specs.declared.header.Row.{Row}
 use Rattle.hatch_format.specs.declared.header.Head.the-variants.{Accepted}
 use Rattle.hatch_format.proofs.Table.{Fine, fine, found}
@@ -33,6 +33,11 @@ getD-upto f d (suc n) i h = elim (decLe n i) [
   | yes a ↦ let e : n ≡ i = omega arith in getD-at (upto f n) (f n) [] d i (length-upto f n ∙ e) ∙ ap f e
   | no b ↦ List·getD-append (upto f n) (f n ∷ []) d i (omega (arith, length-upto f n)) ∙ getD-upto f d n i (omega arith)
 ]
+
+pub getD-mapped : {A B : Type 0} (f : A → B) (d : B) (e : A) (l : List A) (i : ℕ) → i < length l → getD (map f l) i d ≡ f (getD l i e)
+getD-mapped f d e [] i h = absurd (omega arith)
+getD-mapped f d e (x ∷ l) zero h = refl
+getD-mapped f d e (x ∷ l) (suc i) h = getD-mapped f d e l i (omega arith)
 
 pub record-length : (b : List ℕ) (at : ℕ) → length (recordBitsOf b at) ≡ 8
 unfolding recordBitsOf
@@ -57,3 +62,14 @@ module _ (width n : ℕ) (b : List ℕ) (h : Holds width n b) (i : ℕ) (g : i <
       let m : (8 * i + j) % 8 ≡ j = omega arith in
       rw (le-ltb (length b) (recordPlace width i + 32) within)
       (getD-upto (wordFrom b (recordPlace width i)) 0 8 j k ∙ sym (ap (λ (x : ℕ). wordFrom b (recordPlace width x) ((8 * i + j) % 8)) d ∙ ap (wordFrom b (recordPlace width i)) m))
+
+  -- read through f, in the list of the record and in that of the file
+  pub record-entry : {A : Type 0} (f : ℕ → A) (d : A) (j : ℕ) → j < 8 → getD (map f (recordBitsOf b (recordPlace width i))) j d ≡ f (patternAt width b (8 * i + j))
+  record-entry f d j k =
+      getD-mapped f d 0 (recordBitsOf b (recordPlace width i)) j (omega (arith, record-length b (recordPlace width i))) ∙ ap f (record-pattern j k)
+
+  pub file-entry : {A : Type 0} (f : ℕ → A) (d : A) (j : ℕ) → j < 8 → getD (map f (patternsOf width b n)) (8 * i + j) d ≡ f (patternAt width b (8 * i + j))
+  file-entry f d j k =
+      let inside : 8 * i + j < 8 * n = omega arith in
+      getD-mapped f d 0 (patternsOf width b n) (8 * i + j) (omega (arith, length-upto (patternAt width b) (8 * n)))
+      ∙ ap f (getD-upto (patternAt width b) 0 (8 * n) (8 * i + j) inside)

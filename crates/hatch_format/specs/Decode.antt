@@ -21,7 +21,11 @@ recordPlace width i = 7 + width * i
 abbrev pub patternAt : ℕ → List ℕ → ℕ → ℕ
 patternAt width b k = wordFrom b (recordPlace width (k / 8)) (k % 8)
 
--- and the float whose bits they are
+-- the bits of the floats of n records
+abbrev pub patternsOf : ℕ → List ℕ → ℕ → List ℕ
+patternsOf width b n = upto (patternAt width b) (8 * n)
+
+-- the float whose bits these are
 abbrev pub floatOf : ℕ → Float
 floatOf p = ofBits binary32 p
 
@@ -32,7 +36,7 @@ pub data Answer : Type 0 where
 
 unfoldable pub bodyOf : Head → List ℕ → Answer
 bodyOf (Refused number) b = refused number
-bodyOf (Accepted r n) b = accepted (r .version) n (upto (patternAt (r .width) b) (8 * n))
+bodyOf (Accepted r n) b = accepted (r .version) n (patternsOf (r .width) b n)
 
 unfoldable pub decode : List ℕ → List Row → List ℕ → Answer
 decode mark table b = bodyOf (headOf mark table b) b

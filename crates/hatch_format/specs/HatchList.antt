@@ -4,10 +4,9 @@ use mathlib.Core.Bool.{true}
 use mathlib.Core.List.{List}
 use Prim.Native.Nat.{ℕ, _+_, _*_, _≤_}
 use lib.ListN.{length}
-use Rattle.lists.specs.Places.{upto}
 use Rattle.hatch_format.specs.Bytes.{halfAt, startsWith}
 use Rattle.hatch_format.specs.Format.{hsl, rows}
-use Rattle.hatch_format.specs.Decode.{patternAt, accepted, decode}
+use Rattle.hatch_format.specs.Decode.{patternsOf, accepted, decode}
 
 -- "Bytes `HSL`; 16-bit version 1; 16-bit count n; n records of eight f32 [..]; whole length 7 + 32n, n from 0 to 2,000"
 pub record HatchList (b : List ℕ) (n : ℕ) : Type 0 where
@@ -19,7 +18,7 @@ pub record HatchList (b : List ℕ) (n : ℕ) : Type 0 where
 
 -- each is accepted, and nothing else is; proved in proofs/HatchLists.antt
 abbrev pub Accepts : Type 0
-Accepts = (b : List ℕ) (n : ℕ) → HatchList b n → decode hsl rows b ≡ accepted 1 n (upto (patternAt 32 b) (8 * n))
+Accepts = (b : List ℕ) (n : ℕ) → HatchList b n → decode hsl rows b ≡ accepted 1 n (patternsOf 32 b n)
 
 abbrev pub AcceptsOnly : Type 0
 AcceptsOnly = (b : List ℕ) (v n : ℕ) (ps : List ℕ) → decode hsl rows b ≡ accepted v n ps → HatchList b n

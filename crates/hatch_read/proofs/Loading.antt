@@ -1,16 +1,17 @@
 -- A lent list that is filled with the records of a file, one after the other, each float through f. Assumes nothing.
 use mathlib.Core.Path.{_≡_, refl, sym, ap, _∙_}
-use mathlib.Core.List.{List, _++_, map}
+use mathlib.Core.List.{List, _++_}
 use Prim.Native.Nat.{ℕ, _+_, _*_, _-_, _<_, _≤_}
+use native.Mathlib.Nat.{zero-add}
 use native.Mathlib.Numerals.{add-one}
 use native.Mathlib.Decide.{decLe}
 use native.Mathlib.Omega.{arith}
-use lib.ListN.{length, getD, set, take, drop, length-append, length-map, List·getD-append, List·getD-map}
+use lib.ListN.{length, getD, set, take, drop, length-append, List·getD-append}
 use lib.Seq.{paste, paste-suc, length-paste, take-at, take-all, drop-append-add, drop-drop, getD-append-add, ext-getD}
 use Rattle.lists.specs.Places.{upto}
 use Rattle.lists.proofs.Fill.{length-upto}
-use Rattle.hatch_format.specs.Decode.{recordPlace, recordBitsOf, Holds}
-use Rattle.hatch_format.proofs.Records.{getD-upto, record-length, record-pattern}
+use Rattle.hatch_format.specs.Decode.{patternAt}
+use Rattle.hatch_format.proofs.Records.{getD-upto}
 use Rattle.hatch_read.specs.Loading.{entryAt, filled}
 
 -- the first k values of e, and then a list that holds the next ones
@@ -32,31 +33,31 @@ run d e k s h =
           | no b ↦ List·getD-append (upto e k) s d i (omega (arith, length-upto e k)) ∙ getD-upto e d k i (omega arith) ∙ sym (getD-upto e d (k + length s) i below)
         ]
 
+-- a list by its entries
+pub listed : {A : Type 0} (d : A) (e : ℕ → A) (s : List A) → ((j : ℕ) → j < length s → getD s j d ≡ e j) → s ≡ upto e (length s)
+unfolding upto
+listed d e s h = run d e 0 s (λ j g. h j g ∙ ap e (sym (zero-add j))) ∙ ap (upto e) (zero-add (length s))
+
 -- the eight of a record, put one after the other from a place of the list on
-module _ {A : Type 0} (f : ℕ → A) (s : List ℕ) (eight : length s ≡ 8) (l : List A) (at : ℕ) (room : at + 8 ≤ length l) (j : ℕ) where
-  pub put-more : {v : A} → j < 8 → v ≡ f (getD s j 0) → set (paste l at (map f s) j) (at + j) v ≡ paste l at (map f s) (j + 1)
-  put-more h e =
-      ap (set (paste l at (map f s) j) (at + j)) (e ∙ sym (List·getD-map f s j 0))
-      ∙ paste-suc l at (map f s) j (f 0) (omega arith) (omega (arith, length-map s f))
-      ∙ ap (paste l at (map f s)) (sym (add-one j))
+module _ {A : Type 0} (d : A) (s : List A) (eight : length s ≡ 8) (l : List A) (at : ℕ) (room : at + 8 ≤ length l) (j : ℕ) where
+  pub put-more : j < 8 → set (paste l at s j) (at + j) (getD s j d) ≡ paste l at s (j + 1)
+  put-more h = paste-suc l at s j d (omega arith) (omega arith) ∙ ap (paste l at s) (sym (add-one j))
 
-  pub put-kept : j ≤ 8 → length (paste l at (map f s) j) ≡ length l
-  put-kept h = length-paste l at (map f s) j (omega arith) (omega (arith, length-map s f))
+  pub put-kept : j ≤ 8 → length (paste l at s j) ≡ length l
+  put-kept h = length-paste l at s j (omega arith) (omega arith)
 
-module _ {A : Type 0} (f : ℕ → A) (width n : ℕ) (b : List ℕ) (h : Holds width n b) (l : List A) (i : ℕ) (g : i < n) where
-  -- record i, put after the records before it
-  pub more : paste (filled f width b (8 * i) l) (8 * i) (map f (recordBitsOf b (recordPlace width i))) 8 ≡ filled f width b (8 * (i + 1)) l
+-- record i, as the list s, put after the records before it
+module _ {A : Type 0} (d : A) (f : ℕ → A) (width i : ℕ) (b : List ℕ) (l s : List A) (eight : length s ≡ 8)
+    (is : (j : ℕ) → j < 8 → getD s j d ≡ f (patternAt width b (8 * i + j))) where
+  pub more : paste (filled f width b (8 * i) l) (8 * i) s 8 ≡ filled f width b (8 * (i + 1)) l
   more =
       let e = entryAt f width b in
       let k = 8 * i in
-      let r = recordBitsOf b (recordPlace width i) in
-      let s = map f r in
-      let eight : length (map f r) ≡ 8 = length-map r f ∙ record-length b (recordPlace width i) in
       let end : 8 * i + 8 ≡ 8 * (i + 1) = omega arith in
       ap (λ (t : List A). t ++ take 8 s ++ drop (k + 8) (filled f width b k l)) (take-at (upto e k) (drop k l) k (length-upto e k))
-      ∙ ap (λ (t : List A). upto e k ++ t ++ drop (k + 8) (filled f width b k l)) (take-all 8 s (omega (arith, eight)))
+      ∙ ap (λ (t : List A). upto e k ++ t ++ drop (k + 8) (filled f width b k l)) (take-all 8 s (omega arith))
       ∙ ap (λ (m : ℕ). upto e k ++ s ++ drop (m + 8) (filled f width b k l)) (sym (length-upto e k))
       ∙ ap (λ (t : List A). upto e k ++ s ++ t) (drop-append-add (upto e k) (drop k l) 8 ∙ drop-drop 8 k l)
-      ∙ ap (λ (t : List A). t ++ drop (k + 8) l) (run (f 0) e k s λ j x. List·getD-map f r j 0 ∙ ap f (record-pattern width n b h i g j (omega (arith, eight))))
+      ∙ ap (λ (t : List A). t ++ drop (k + 8) l) (run d e k s λ j x. is j (omega arith))
       ∙ ap (λ (m : ℕ). upto e (k + m) ++ drop (k + 8) l) eight
       ∙ ap (λ (m : ℕ). filled f width b m l) end

@@ -8,7 +8,7 @@ ghost use Prim.Native.Nat.{_+_, _*_, _≤_};
 ghost use lib.ListN.{length};
 ghost use lib.Seq.{paste};
 ghost use Rattle.hatch_format.specs.Format.{hsl, rows, headOf};
-ghost use Rattle.hatch_format.specs.Decode.{floatOf, Holds};
+ghost use Rattle.hatch_format.specs.Decode.{floatOf, recordBitsOf, Holds};
 ghost use Rattle.hatch_read.specs.Read.{recordCountOf, withRoom, decodeInto, itself, readOf, listOf};
 ghost use Rattle.hatch_read.specs.Loading.{filled};
 
@@ -23,6 +23,20 @@ pub fn record_count(floats: &[f32]) -> usize
     ensures { λ r. ⌜ r ≡ recordCountOf (now (floats .entry)) ⌝ }
 {
     floats.len() / 8
+}
+
+// The eight floats of the record at a byte: zeros where the bytes end before it does.
+pub fn record_floats(bytes: &[u8], at: usize) -> [f32; 8]
+    ensures { λ r. ⌜ r ≡ map floatOf (recordBitsOf (now (bytes .entry)) at) ⌝ }
+{
+    let patterns = hatch_format::record_bits(bytes, at);
+    let mut floats = [0.0; 8];
+    let mut i = 0;
+    while i < 8 {
+        floats[i] = bits::of_bits(patterns[i]);
+        i += 1;
+    }
+    floats
 }
 
 // The header, for a list of `room` entries, which has to hold eight floats a record.
@@ -44,7 +58,7 @@ fn head_within(bytes: &[u8], room: usize) -> Head
 // Puts a record at the entries from `at` on.
 fn put_patterns(patterns: [u32; 8], out: &mut [u32], at: usize)
     requires { ⌜ at + 8 ≤ length (now out) ⌝ }
-    ensures { λ _. ⌜ now (out .exit) ≡ paste (now (out .entry)) at (map itself patterns) 8 ⌝ }
+    ensures { λ _. ⌜ now (out .exit) ≡ paste (now (out .entry)) at patterns 8 ⌝ }
 {
     let mut j = 0;
     while j < 8 {
@@ -53,13 +67,13 @@ fn put_patterns(patterns: [u32; 8], out: &mut [u32], at: usize)
     }
 }
 
-fn put_floats(patterns: [u32; 8], out: &mut [f32], at: usize)
+fn put_floats(floats: [f32; 8], out: &mut [f32], at: usize)
     requires { ⌜ at + 8 ≤ length (now out) ⌝ }
-    ensures { λ _. ⌜ now (out .exit) ≡ paste (now (out .entry)) at (map floatOf patterns) 8 ⌝ }
+    ensures { λ _. ⌜ now (out .exit) ≡ paste (now (out .entry)) at floats 8 ⌝ }
 {
     let mut j = 0;
     while j < 8 {
-        out[at + j] = bits::of_bits(patterns[j]);
+        out[at + j] = floats[j];
         j += 1;
     }
 }
@@ -86,11 +100,7 @@ fn load_floats(bytes: &[u8], width: usize, count: usize, out: &mut [f32])
 {
     let mut i = 0;
     while i < count {
-        put_floats(
-            hatch_format::record_bits(bytes, RECORDS_AT + width * i),
-            out,
-            8 * i,
-        );
+        put_floats(record_floats(bytes, RECORDS_AT + width * i), out, 8 * i);
         i += 1;
     }
 }

@@ -5,12 +5,13 @@ use Prim.Native.Nat.{ℕ, _/_, _%_}
 use lib.Ieee.{ofBits, toBits, sub, div, neg, lt, le, eq, ne, isNan}
 use Rattle.float.specs.Values.{minOf, maxOf}
 use Rattle.aabb.specs.Clip.{narrowedOf, narrowAll, orderedOf, clipOver, intersectionsAgainstLineOf}
-use Rattle.hatch.specs.Bytes.{startsWith, upto}
-use Rattle.hatch.specs.Format.{layoutOf, sizedOf, versionedOf, headOf}
-use Rattle.hatch.specs.Decode.{bodyOf, decode}
+use Rattle.lists.specs.Places.{upto}
+use Rattle.hatch_format.specs.Bytes.{startsWith}
+use Rattle.hatch_format.specs.Format.{hsl, layoutOf, sizedOf, versionedOf, headOf}
+use Rattle.hatch_format.specs.Decode.{bodyOf, decode}
 use Rattle.text.specs.Ascii.{ascii}
 use Rattle.text.specs.Numbers.{decimalBy, decimal, hex8}
-use Rattle.report.specs.Report.{shown, lineOf, clipAt, linesOf, openingOf, refusalOf, textOf, reportOf}
+use Rattle.report.specs.Report.{shown, fieldOf, endOf, lineOf, linesOf, openingOf, refusalOf, textOf, reportOf}
 
 -- the four bytes of a float, from its bits
 abbrev float : ℕ → List ℕ
@@ -18,7 +19,7 @@ float x = x % 256 ∷ x / 256 % 256 ∷ x / 65536 % 256 ∷ x / 16777216 ∷ []
 
 -- a header of version 1 with fewer than 256 records
 abbrev head : ℕ → List ℕ
-head n = ascii "HSL" ++ (1 ∷ 0 ∷ n ∷ 0 ∷ [])
+head n = hsl ++ (1 ∷ 0 ∷ n ∷ 0 ∷ [])
 
 -- box 0 0 4 2
 abbrev box : List ℕ
@@ -38,6 +39,14 @@ figures =
           ++ (box ++ float 0x40c0_0000 ++ float 0xbf80_0000 ++ float 0x3f80_0000 ++ float 0x3f80_0000);
       printed = ascii "HSL 1 2\n1 hit 40000000 40400000\n2 miss\n";
     }
+    -- its falling twin, mirrored in the line y = 1: point 6 3, direction -1 -1; then direction 1 -1
+    ∷ record {
+      bytes =
+          head 2
+          ++ (box ++ float 0x40c0_0000 ++ float 0x4040_0000 ++ float 0xbf80_0000 ++ float 0xbf80_0000)
+          ++ (box ++ float 0x40c0_0000 ++ float 0x4040_0000 ++ float 0x3f80_0000 ++ float 0xbf80_0000);
+      printed = ascii "HSL 1 2\n1 hit 40000000 40400000\n2 miss\n";
+    }
     -- point 0 1, direction -1 0: from -4 to -0
     ∷ record {
       bytes = head 1 ++ (box ++ float 0 ++ float 0x3f80_0000 ++ float 0xbf80_0000 ++ float 0);
@@ -54,5 +63,5 @@ figures =
     ∷ []
 
 figures-right : map (λ (f : Figure). reportOf (f .bytes)) figures ≡ map (λ (f : Figure). f .printed) figures
-unfolding figures ofBits toBits sub div neg lt le eq ne isNan minOf maxOf narrowedOf narrowAll orderedOf clipOver intersectionsAgainstLineOf startsWith upto layoutOf sizedOf versionedOf headOf bodyOf decode decimalBy decimal hex8 shown lineOf clipAt linesOf openingOf refusalOf textOf reportOf
+unfolding figures ofBits toBits sub div neg lt le eq ne isNan minOf maxOf narrowedOf narrowAll orderedOf clipOver intersectionsAgainstLineOf startsWith upto layoutOf sizedOf versionedOf headOf bodyOf decode decimalBy decimal hex8 shown fieldOf endOf lineOf linesOf openingOf refusalOf textOf reportOf
 figures-right = refl

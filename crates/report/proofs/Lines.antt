@@ -1,18 +1,16 @@
--- The lines, one after the other, and the text of an answer that was read. Assumes nothing.
+-- The lines, one after the other, each from its record in the bytes. Assumes nothing.
 use mathlib.Core.Path.{_≡_, sym, ap, _∙_}
 use mathlib.Core.List.{List, _++_, map}
-use Prim.Native.Nat.{ℕ, _+_, _*_, _≤_}
+use Prim.Native.Nat.{ℕ, _+_, _*_, _<_}
 use native.Mathlib.Numerals.{add-one}
-use native.Mathlib.Omega.{arith}
-use lib.ListN.{length, take, drop, length-append, length-map}
-use lib.Seq.{take-at}
-use lib.Ieee.{Float}
+use lib.Dec.{lit≤}
+use lib.ListN.{getD}
+use lib.Ieee.{Float, nan}
+use Rattle.hatch_format.specs.Decode.{floatOf, recordPlace, recordBitsOf, patternsOf, Holds}
+use Rattle.hatch_format.proofs.Records.{record-entry, file-entry}
 use Rattle.text.specs.Page.{Page, Adds}
-use Rattle.text.specs.Laws.{many, same}
-use Rattle.hatch.specs.Decode.{Answer, refused, accepted, readOf, listOf, floatOf}
-use Rattle.hatch.specs.Bounds.{Bounded}
-use Rattle.hatch.specs.declared.read.Read.the-variants.{Refused, Records}
-use Rattle.report.specs.Report.{clipAt, lineOf, linesOf, openingOf, refusalOf, textOf}
+use Rattle.text.proofs.Laws.{many, same}
+use Rattle.report.specs.Report.{clipAt, lineOf, linesOf}
 
 lines-suc : (fs : List Float) (k : ℕ) → linesOf fs k ++ lineOf (k + 1) (clipAt fs k) ≡ linesOf fs (k + 1)
 unfolding linesOf
@@ -21,29 +19,11 @@ lines-suc fs k = sym (ap (linesOf fs) (add-one k))
 pub lines-more : (fs : List Float) (k : ℕ) {p q r : Page} → Adds p (linesOf fs k) q → Adds q (lineOf (k + 1) (clipAt fs k)) r → Adds p (linesOf fs (k + 1)) r
 lines-more fs k e f = same (lines-suc fs k) (many _ _ e f)
 
-pub refusal : (a : Answer) (k : ℕ) → readOf a ≡ Refused k → refusalOf k ≡ textOf a
-unfolding readOf textOf
-refusal (refused number) k e = let n : number ≡ k = cc in ap refusalOf (sym n)
-refusal (accepted v n ps) k e = absurd (let z : _≡_ {A = ℕ} 0 1 = cc in omega arith)
-
--- the floats of an answer stand at the front of the list l, and give its text
-pub record Held (l : List Float) (v n : ℕ) (a : Answer) : Type 0 where
-  pub fits : 8 * n ≤ length l
-  pub text : openingOf v n ++ linesOf (take (8 * n) l) n ≡ textOf a
-
-pub held : (a : Answer) → Bounded a → (l₀ l : List Float) (v n : ℕ) → readOf a ≡ Records v n → l ≡ listOf floatOf a l₀ → Held l v n a
-unfolding readOf listOf textOf Bounded
-held (refused k) h l₀ l v n t e = absurd (let z : _≡_ {A = ℕ} 0 1 = cc in omega arith)
-held (accepted v′ n′ ps) h l₀ l v n t e =
-    let fs = map floatOf ps in
-    let vv : v′ ≡ v = cc in
-    let nn : n′ ≡ n = cc in
-    let eight : length (map floatOf ps) ≡ 8 * n = length-map ps floatOf ∙ h .2 ∙ ap (λ (k : ℕ). 8 * k) nn in
-    record {
-      fits = omega (arith, ap length e, length-append fs (drop (length ps) l₀), eight);
-      text =
-          ap (λ (x : List Float). openingOf v n ++ linesOf (take (8 * n) x) n) e
-          ∙ ap (λ (x : List Float). openingOf v n ++ linesOf x n) (take-at fs (drop (length ps) l₀) (8 * n) eight)
-          ∙ ap (λ (k : ℕ). openingOf k n ++ linesOf fs n) (sym vv)
-          ∙ ap (λ (k : ℕ). openingOf v′ k ++ linesOf fs k) (sym nn);
-    }
+-- a record of the bytes is the record of that number of the whole file
+pub record-clip : (width n : ℕ) (b : List ℕ) → Holds width n b → (k : ℕ) → k < n
+    → clipAt (map floatOf (recordBitsOf b (recordPlace width k))) 0 ≡ clipAt (map floatOf (patternsOf width b n)) k
+record-clip width n b h k g =
+    rw (at 0 (lit≤ tt), at 1 (lit≤ tt), at 2 (lit≤ tt), at 3 (lit≤ tt), at 4 (lit≤ tt), at 5 (lit≤ tt), at 6 (lit≤ tt), at 7 (lit≤ tt))
+  where
+    at : (j : ℕ) → j < 8 → getD (map floatOf (recordBitsOf b (recordPlace width k))) j nan ≡ getD (map floatOf (patternsOf width b n)) (8 * k + j) nan
+    at j i = record-entry width n b h k g floatOf nan j i ∙ sym (file-entry width n b h k g floatOf nan j i)

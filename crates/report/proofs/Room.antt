@@ -1,25 +1,33 @@
--- How long a report is, and what a list with room for it holds. Assumes nothing.
+-- How long a report is, and what the list and the count are after it. Assumes nothing.
 use mathlib.Core.Path.{_≡_, refl, sym, ap, _∙_}
 use mathlib.Core.List.{List, _++_, map}
 use Prim.Native.Nat.{ℕ, zero, suc, _+_, _*_, _<_, _≤_}
 use native.Mathlib.Omega.{arith}
-use lib.ListN.{length, drop, length-append}
-use lib.Seq.{length-take-le}
+use lib.ListN.{length, take, length-append}
 use lib.Ieee.{Float}
+use Rattle.lists.specs.Lent.{written}
 use Rattle.types.specs.declared.answer.Interval.{Interval}
 use Rattle.types.specs.declared.answer.Interval.the-variants.{Miss, Hit}
-use Rattle.text.specs.Page.{Page, page, puts, Adds}
+use Rattle.text.specs.Page.{Page, page, Adds}
 use Rattle.text.specs.Ascii.{ascii}
 use Rattle.text.specs.Numbers.{decimal, hex8}
-use Rattle.text.specs.Laws.{used, whole, decimal-4}
-use Rattle.hatch.specs.Format.{hsl, rows}
-use Rattle.hatch.specs.Decode.{Answer, refused, accepted, decode, decodeInto, floatOf}
-use Rattle.hatch.specs.Bounds.{Bounded, bounded, enough}
-use Rattle.report.specs.Report.{shown, clipAt, lineOf, linesOf, openingOf, refusalOf, textOf, reportOf, Reports}
+use Rattle.text.proofs.Laws.{same, whole}
+use Rattle.text.proofs.Decimal.{decimal-4}
+use Rattle.hatch_format.specs.Format.{hsl, rows, headOf}
+use Rattle.hatch_format.specs.Decode.{Answer, refused, accepted, bodyOf, decode, patternsOf, floatOf}
+use Rattle.hatch_format.proofs.Bounds.{Bounded, bounded}
+use Rattle.hatch_format.specs.declared.header.Row.{Row}
+use Rattle.hatch_format.specs.declared.header.Head.{Head}
+use Rattle.hatch_format.specs.declared.header.Head.the-variants as head
+use Rattle.report.specs.Report.{clipAt, shown, fieldOf, endOf, lineOf, linesOf, openingOf, refusalOf, textOf, reportOf}
 
-hex8-length : (x : ℕ) → length (hex8 x) ≡ 8
-unfolding hex8
-hex8-length x = refl
+end-length : (x : Float) → length (endOf x) ≡ 9
+unfolding endOf hex8
+end-length x = refl
+
+field-length : (n : ℕ) → n < 10000 → length (fieldOf n) ≤ 5
+unfolding fieldOf
+field-length n h = omega (arith, decimal-4 n h)
 
 line-length : (i : ℕ) (t : Interval) → i < 10000 → length (lineOf i t) ≤ 27
 unfolding lineOf
@@ -27,11 +35,11 @@ line-length i Miss h = omega (arith, length-append (decimal i) (ascii " miss\n")
 line-length i (Hit a b) h =
     omega (
       arith,
-      length-append (decimal i) (ascii " hit " ++ (hex8 (shown a) ++ (ascii " " ++ (hex8 (shown b) ++ ascii "\n")))),
-      length-append (hex8 (shown a)) (ascii " " ++ (hex8 (shown b) ++ ascii "\n")),
-      length-append (hex8 (shown b)) (ascii "\n"),
-      hex8-length (shown a),
-      hex8-length (shown b),
+      length-append (decimal i) (ascii " hit" ++ (endOf a ++ (endOf b ++ ascii "\n"))),
+      length-append (endOf a) (endOf b ++ ascii "\n"),
+      length-append (endOf b) (ascii "\n"),
+      end-length a,
+      end-length b,
       decimal-4 i h,
     )
 
@@ -48,34 +56,39 @@ lines-length fs (suc n) h =
 
 text-length : (a : Answer) → Bounded a → length (textOf a) ≤ 54014
 unfolding Bounded textOf openingOf refusalOf
-text-length (refused k) s = omega (arith, length-append (decimal k) (ascii "\n"), decimal-4 k (omega arith))
+text-length (refused k) s = omega (arith, length-append (fieldOf k) (ascii "\n"), field-length k (omega arith))
 text-length (accepted v n ps) s =
     omega (
       arith,
       length-append (openingOf v n) (linesOf (map floatOf ps) n),
-      length-append (decimal v) (ascii " " ++ (decimal n ++ ascii "\n")),
-      length-append (decimal n) (ascii "\n"),
-      decimal-4 v (omega (arith, s .0)),
-      decimal-4 n (omega (arith, s .1)),
+      length-append (fieldOf v) (fieldOf n ++ ascii "\n"),
+      length-append (fieldOf n) (ascii "\n"),
+      field-length v (s .0),
+      field-length n (omega (arith, s .1)),
       lines-length (map floatOf ps) n (s .1),
       s .1,
     )
 
-module _ (b : List ℕ) (room : ℕ) (l l′ : List ℕ) (r : ℕ) (t : Adds (page l 0) (textOf (decodeInto hsl rows room b)) (page l′ r)) where
-  all : 16000 ≤ room → 54014 ≤ length l → page l′ r ≡ page (reportOf b ++ drop (length (reportOf b)) l) (length (reportOf b))
+-- a text that is the report, put at the start of the list l
+module _ (b l l′ : List ℕ) (r : ℕ) (t : Adds (page l 0) (reportOf b) (page l′ r)) where
+  short : length (reportOf b) ≤ 54014
   unfolding reportOf
-  all h g =
-      t .adds
-      ∙ ap (λ (a : Answer). puts (page l 0) (textOf a)) (enough room b h)
-      ∙ whole (reportOf b) l (omega (arith, text-length (decode hsl rows b) (bounded b)))
+  short = text-length (decode hsl rows b) (bounded b)
 
-  pub reports : Reports b room l l′ r
+  all : page l′ r ≡ page (written (take (length l) (reportOf b)) l) (length (reportOf b))
+  all = t .adds ∙ whole (reportOf b) l (omega (arith, short))
+
+  pub reports : (r ≡ length (reportOf b)) × ((l′ ≡ written (take (length l) (reportOf b)) l) × (r ≤ 54014))
   reports =
-      let in-it : r ≤ length l′ = used (textOf (decodeInto hsl rows room b)) (omega arith) t in
-      record {
-        text = t;
-        inside = in-it;
-        counted = sym (length-take-le r l′ in-it);
-        whole = λ h g. ap (λ (p : Page). p .bytes) (all h g);
-        size = λ h g. ap (λ (p : Page). p .used) (all h g);
-      }
+      let size : r ≡ length (reportOf b) = ap (λ (p : Page). p .size) all in
+      (size, (ap (λ (p : Page). p .bytes) all, omega (arith, size, short)))
+
+-- h is the answer of the call that gives the header, and a match has found what h is
+module _ (b : List ℕ) {h : Head} (is : h ≡ headOf hsl rows b) where
+  pub refusal : {k : ℕ} → h ≡ head.Refused k → refusalOf k ≡ reportOf b
+  unfolding reportOf decode bodyOf textOf
+  refusal e = ap (λ (x : Head). textOf (bodyOf x b)) (sym e ∙ is)
+
+  pub records : {r : Row} {n : ℕ} → h ≡ head.Accepted r n → openingOf (r .version) n ++ linesOf (map floatOf (patternsOf (r .width) b n)) n ≡ reportOf b
+  unfolding reportOf decode bodyOf textOf
+  records e = ap (λ (x : Head). textOf (bodyOf x b)) (sym e ∙ is)

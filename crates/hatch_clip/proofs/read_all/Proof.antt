@@ -4,11 +4,8 @@ use Prim.Native.Nat.{_-_, _≤_}
 use native.Mathlib.Omega.{arith}
 use denote.Ref.{now}
 use lib.ListN.{length}
-use mir.Facts.{toZ-pos}
-use mir.Syntax.{w64}
-use mir.Val.{toZ}
 use borrow.Author.Needs.{needs}
-use Rattle.libc.specs.Io.{Moved}
+use Rattle.hatch_clip.specs.Input.{Within}
 use Rattle.hatch_clip.proofs.read_all.Statement.{statement}
 use Rattle.hatch_clip.proofs.read_all.Tie as tie
 
@@ -17,10 +14,6 @@ Inv-loop buffer₀ n₀ buffer n = (n ≤ length buffer₀) × (length buffer �
 
 abbrev μ-loop : tie.MeasureT-loop
 μ-loop buffer₀ n₀ buffer n = length buffer₀ - n
-
--- the count at the loop's test is one that libc::read could answer
-counted : (c : tie.At-loop Inv-loop μ-loop) → Moved (length (now (c .before .before .args .buffer))) (toZ w64 (c .loop .n))
-counted c = rw (toZ-pos w64 {n = c .loop .n} (omega arith)) (c .loop .inv .0)
 
 loop-holds : tie.Need-loop-holds Inv-loop μ-loop
 loop-holds c = search needs
@@ -41,7 +34,8 @@ same-length : tie.Need-same-length Inv-loop μ-loop
 same-length c = search needs
 
 returns : tie.Need-returns Inv-loop μ-loop
-returns c = search needs
+unfolding Within
+returns c = tt
 
 sub-count : tie.Need-sub-count Inv-loop μ-loop
 sub-count c = search needs
@@ -55,14 +49,12 @@ part-count-end c = search needs
 count-requires : tie.Need-count-requires Inv-loop μ-loop
 count-requires c κs = search needs
 
-cast-result : tie.Need-cast-result Inv-loop μ-loop
-cast-result c = search needs
-
 same-length-2 : tie.Need-same-length-2 Inv-loop μ-loop
 same-length-2 c = search needs
 
 returns-2 : tie.Need-returns-2 Inv-loop μ-loop
-returns-2 c = counted (c .before .before .before .before .before .before .before .before .before .before)
+unfolding Within
+returns-2 c = omega arith
 
 add-n : tie.Need-add-n Inv-loop μ-loop
 add-n c = search needs
@@ -73,14 +65,12 @@ loop-less c = search needs
 loop-again : tie.Need-loop-again Inv-loop μ-loop
 loop-again c = search needs
 
-cast-result-2 : tie.Need-cast-result-2 Inv-loop μ-loop
-cast-result-2 c = search needs
-
 same-length-3 : tie.Need-same-length-3 Inv-loop μ-loop
 same-length-3 c = search needs
 
 returns-3 : tie.Need-returns-3 Inv-loop μ-loop
-returns-3 c = counted (c .before)
+unfolding Within
+returns-3 c = omega arith
 
 pub read-all-spec : {M : Type 1} → statement M
 read-all-spec =
@@ -99,12 +89,10 @@ read-all-spec =
     part-count-start
     part-count-end
     count-requires
-    cast-result
     same-length-2
     returns-2
     add-n
     loop-less
     loop-again
-    cast-result-2
     same-length-3
     returns-3)

@@ -1,12 +1,14 @@
 -- `hatch_read::load_floats` meets its contract: after i turns the first i records are put. Assumes nothing.
 use mathlib.Core.Path.{_≡_, ap, _∙_}
+use mathlib.Core.List.{map}
 use Prim.Native.Nat.{ℕ, _+_, _*_, _-_, _≤_}
 use native.Mathlib.Omega.{arith}
 use denote.Ref.{now}
-use lib.ListN.{length}
+use lib.ListN.{length, length-map}
+use lib.Ieee.{nan}
 use Rattle.lists.proofs.Fill.{fill-none, length-fill}
-use Rattle.hatch_format.specs.Decode.{floatOf, recordPlace}
-use Rattle.hatch_format.proofs.Records.{within}
+use Rattle.hatch_format.specs.Decode.{floatOf, recordPlace, recordBitsOf}
+use Rattle.hatch_format.proofs.Records.{within, record-length, record-entry}
 use Rattle.hatch_read.specs.Loading.{entryAt, filled}
 use Rattle.hatch_read.proofs.Loading.{more}
 use Rattle.hatch_read.proofs.load_floats.Statement.{statement}
@@ -33,14 +35,14 @@ kept c =
     ap length (c .loop .inv .1)
     ∙ length-fill (entryAt floatOf (start .args .width) (now (start .args .bytes))) (8 * c .loop .i) (now (start .args .out)) (omega (arith, start .pre .1))
 
-mul-record-bits : tie.Need-mul-record-bits Inv-loop μ-loop
-mul-record-bits c = omega (arith, place c)
+mul-record-floats : tie.Need-mul-record-floats Inv-loop μ-loop
+mul-record-floats c = omega (arith, place c)
 
-add-record-bits : tie.Need-add-record-bits Inv-loop μ-loop
-add-record-bits c = omega (arith, place c)
+add-record-floats : tie.Need-add-record-floats Inv-loop μ-loop
+add-record-floats c = omega (arith, place c)
 
-record-bits-requires : tie.Need-record-bits-requires Inv-loop μ-loop
-record-bits-requires c κs = tt
+record-floats-requires : tie.Need-record-floats-requires Inv-loop μ-loop
+record-floats-requires c κs = tt
 
 mul-put-floats : tie.Need-mul-put-floats Inv-loop μ-loop
 mul-put-floats c = omega arith
@@ -60,11 +62,12 @@ loop-again c =
     let read = put .before .before in
     let turn = read .before .before in
     let start = turn .before .before .before in
-    let a = start .args in (
-      omega arith,
-      put .put-floats .ensures
-          ∙ rw (turn .loop .inv .1, read .record-bits .ensures) (more floatOf (a .width) (a .count) (now (a .bytes)) (start .pre .0) (now (a .out)) (turn .loop .i) (omega arith)),
-    )
+    let a = start .args in
+    let r = recordBitsOf (now (a .bytes)) (recordPlace (a .width) (turn .loop .i)) in
+    let next =
+    more nan floatOf (a .width) (turn .loop .i) (now (a .bytes)) (now (a .out)) (map floatOf r) (length-map r floatOf ∙ record-length (now (a .bytes)) (recordPlace (a .width) (turn .loop .i)))
+    (record-entry (a .width) (a .count) (now (a .bytes)) (start .pre .0) (turn .loop .i) (omega arith) floatOf nan) in
+    (omega arith, put .put-floats .ensures ∙ rw (turn .loop .inv .1, read .record-floats .ensures) next)
 
 same-length : tie.Need-same-length Inv-loop μ-loop
 same-length c = kept (c .before)
@@ -82,9 +85,9 @@ load-floats-spec =
     Inv-loop
     μ-loop
     loop-holds
-    mul-record-bits
-    add-record-bits
-    record-bits-requires
+    mul-record-floats
+    add-record-floats
+    record-floats-requires
     mul-put-floats
     put-floats-requires
     add-i

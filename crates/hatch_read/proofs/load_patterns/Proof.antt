@@ -5,8 +5,8 @@ use native.Mathlib.Omega.{arith}
 use denote.Ref.{now}
 use lib.ListN.{length}
 use Rattle.lists.proofs.Fill.{fill-none, length-fill}
-use Rattle.hatch_format.specs.Decode.{recordPlace}
-use Rattle.hatch_format.proofs.Records.{within}
+use Rattle.hatch_format.specs.Decode.{recordPlace, recordBitsOf}
+use Rattle.hatch_format.proofs.Records.{within, record-length, record-pattern}
 use Rattle.hatch_read.specs.Read.{itself}
 use Rattle.hatch_read.specs.Loading.{entryAt, filled}
 use Rattle.hatch_read.proofs.Loading.{more}
@@ -61,11 +61,12 @@ loop-again c =
     let read = put .before .before in
     let turn = read .before .before in
     let start = turn .before .before .before in
-    let a = start .args in (
-      omega arith,
-      put .put-patterns .ensures
-          ∙ rw (turn .loop .inv .1, read .record-bits .ensures) (more itself (a .width) (a .count) (now (a .bytes)) (start .pre .0) (now (a .out)) (turn .loop .i) (omega arith)),
-    )
+    let a = start .args in
+    let r = recordBitsOf (now (a .bytes)) (recordPlace (a .width) (turn .loop .i)) in
+    let next =
+    more 0 itself (a .width) (turn .loop .i) (now (a .bytes)) (now (a .out)) r (record-length (now (a .bytes)) (recordPlace (a .width) (turn .loop .i)))
+    (record-pattern (a .width) (a .count) (now (a .bytes)) (start .pre .0) (turn .loop .i) (omega arith)) in
+    (omega arith, put .put-patterns .ensures ∙ rw (turn .loop .inv .1, read .record-bits .ensures) next)
 
 same-length : tie.Need-same-length Inv-loop μ-loop
 same-length c = kept (c .before)

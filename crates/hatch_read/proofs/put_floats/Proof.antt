@@ -1,53 +1,48 @@
 -- `hatch_read::put_floats` meets its contract: after j turns the first j entries are put. Assumes nothing.
 use mathlib.Core.Path.{_≡_, ap, _∙_}
-use mathlib.Core.List.{map}
 use Prim.Native.Nat.{_-_, _≤_}
 use native.Mathlib.Omega.{arith}
 use denote.Ref.{now}
 use lib.ListN.{length}
 use lib.Seq.{paste, paste-zero}
-use mir.Syntax.{w32}
-use borrow.Kind.Array.{eInt, good-length}
-use Rattle.hatch_format.specs.Decode.{floatOf}
+use lib.Ieee.{nan, binary32}
+use borrow.Kind.Array.{eFloat, good-length}
 use Rattle.hatch_read.proofs.Loading.{put-more, put-kept}
 use Rattle.hatch_read.proofs.put_floats.Statement.{statement}
 use Rattle.hatch_read.proofs.put_floats.Tie as tie
 
 abbrev Inv-loop : tie.InvT-loop
-Inv-loop out₀ at patterns j₀ out j = (j ≤ 8) × (out ≡ paste out₀ at (map floatOf patterns) j)
+Inv-loop out₀ at floats j₀ out j = (j ≤ 8) × (out ≡ paste out₀ at floats j)
 
 abbrev μ-loop : tie.MeasureT-loop
-μ-loop out₀ at patterns j₀ out j = 8 - j
+μ-loop out₀ at floats j₀ out j = 8 - j
 
 loop-holds : tie.Need-loop-holds Inv-loop μ-loop
-loop-holds c = (omega arith, paste-zero (now (c .before .args .out)) (c .before .args .at) (map floatOf (c .before .args .t1)))
+loop-holds c = (omega arith, paste-zero (now (c .args .out)) (c .args .at) (c .args .t1))
 
 -- the record has eight entries, and the list is as long as it came
-eight : (c : tie.At-loop Inv-loop μ-loop) → length (c .before .before .args .t1) ≡ 8
-eight c = good-length (eInt w32) 8 (c .before .before .args .t1) _ (c .before .before .good .0)
+eight : (c : tie.At-loop Inv-loop μ-loop) → length (c .before .args .t1) ≡ 8
+eight c = good-length (eFloat binary32) 8 (c .before .args .t1) _ (c .before .good .0)
 
-kept : (c : tie.At-loop Inv-loop μ-loop) → length (c .loop .out) ≡ length (now (c .before .before .args .out))
+kept : (c : tie.At-loop Inv-loop μ-loop) → length (c .loop .out) ≡ length (now (c .before .args .out))
 kept c =
-    let a = c .before .before .args in
-    ap length (c .loop .inv .1) ∙ put-kept floatOf (a .t1) (eight c) (now (a .out)) (a .at) (c .before .before .pre) (c .loop .j) (omega arith)
-
-mul-of-bits : tie.Need-mul-of-bits Inv-loop μ-loop
-mul-of-bits c = omega arith
-
-array-read-of-bits : tie.Need-array-read-of-bits Inv-loop μ-loop
-array-read-of-bits c = omega arith
-
-of-bits-requires : tie.Need-of-bits-requires Inv-loop μ-loop
-of-bits-requires c κs = tt
-
-add-out : tie.Need-add-out Inv-loop μ-loop
-add-out c = omega arith
+    let a = c .before .args in
+    ap length (c .loop .inv .1) ∙ put-kept nan (a .t1) (eight c) (now (a .out)) (a .at) (c .before .pre) (c .loop .j) (omega arith)
 
 mul-out : tie.Need-mul-out Inv-loop μ-loop
 mul-out c = omega arith
 
+array-read-out : tie.Need-array-read-out Inv-loop μ-loop
+array-read-out c = omega arith
+
+add-out : tie.Need-add-out Inv-loop μ-loop
+add-out c = omega arith
+
+mul-out-2 : tie.Need-mul-out-2 Inv-loop μ-loop
+mul-out-2 c = omega arith
+
 slice-write-out : tie.Need-slice-write-out Inv-loop μ-loop
-slice-write-out c = omega (arith, kept (c .before .before))
+slice-write-out c = omega (arith, kept (c .before))
 
 add-j : tie.Need-add-j Inv-loop μ-loop
 add-j c = omega arith
@@ -57,18 +52,18 @@ loop-less c = omega arith
 
 loop-again : tie.Need-loop-again Inv-loop μ-loop
 loop-again c =
-    let turn = c .before .before in
-    let a = turn .before .before .args in
-    (omega arith, rw (turn .loop .inv .1) (put-more floatOf (a .t1) (eight turn) (now (a .out)) (a .at) (turn .before .before .pre) (turn .loop .j) (omega arith) (c .of-bits .ensures)))
+    let turn = c .before in
+    let a = turn .before .args in
+    (omega arith, rw (turn .loop .inv .1) (put-more nan (a .t1) (eight turn) (now (a .out)) (a .at) (turn .before .pre) (turn .loop .j) (omega arith)))
 
 same-length : tie.Need-same-length Inv-loop μ-loop
 same-length c = kept (c .before)
 
 returns : tie.Need-returns Inv-loop μ-loop
 returns c =
-    let a = c .before .before .before .args in
+    let a = c .before .before .args in
     let e : c .before .loop .j ≡ 8 = omega arith in
-    c .before .loop .inv .1 ∙ ap (paste (now (a .out)) (a .at) (map floatOf (a .t1))) e
+    c .before .loop .inv .1 ∙ ap (paste (now (a .out)) (a .at) (a .t1)) e
 
 pub put-floats-spec : {M : Type 1} → statement M
 put-floats-spec =
@@ -77,11 +72,10 @@ put-floats-spec =
     Inv-loop
     μ-loop
     loop-holds
-    mul-of-bits
-    array-read-of-bits
-    of-bits-requires
-    add-out
     mul-out
+    array-read-out
+    add-out
+    mul-out-2
     slice-write-out
     add-j
     loop-less

@@ -1,6 +1,5 @@
 -- `hatch_read::put_patterns` meets its contract: after j turns the first j entries are put. Assumes nothing.
-use mathlib.Core.Path.{_≡_, refl, ap, _∙_}
-use mathlib.Core.List.{map}
+use mathlib.Core.Path.{_≡_, ap, _∙_}
 use Prim.Native.Nat.{_-_, _≤_}
 use native.Mathlib.Omega.{arith}
 use denote.Ref.{now}
@@ -8,19 +7,18 @@ use lib.ListN.{length}
 use lib.Seq.{paste, paste-zero}
 use mir.Syntax.{w32}
 use borrow.Kind.Array.{eInt, good-length}
-use Rattle.hatch_read.specs.Read.{itself}
 use Rattle.hatch_read.proofs.Loading.{put-more, put-kept}
 use Rattle.hatch_read.proofs.put_patterns.Statement.{statement}
 use Rattle.hatch_read.proofs.put_patterns.Tie as tie
 
 abbrev Inv-loop : tie.InvT-loop
-Inv-loop out₀ at patterns j₀ out j = (j ≤ 8) × (out ≡ paste out₀ at (map itself patterns) j)
+Inv-loop out₀ at patterns j₀ out j = (j ≤ 8) × (out ≡ paste out₀ at patterns j)
 
 abbrev μ-loop : tie.MeasureT-loop
 μ-loop out₀ at patterns j₀ out j = 8 - j
 
 loop-holds : tie.Need-loop-holds Inv-loop μ-loop
-loop-holds c = (omega arith, paste-zero (now (c .args .out)) (c .args .at) (map itself (c .args .t1)))
+loop-holds c = (omega arith, paste-zero (now (c .args .out)) (c .args .at) (c .args .t1))
 
 -- the record has eight entries, and the list is as long as it came
 eight : (c : tie.At-loop Inv-loop μ-loop) → length (c .before .args .t1) ≡ 8
@@ -29,7 +27,7 @@ eight c = good-length (eInt w32) 8 (c .before .args .t1) _ (c .before .good .0)
 kept : (c : tie.At-loop Inv-loop μ-loop) → length (c .loop .out) ≡ length (now (c .before .args .out))
 kept c =
     let a = c .before .args in
-    ap length (c .loop .inv .1) ∙ put-kept itself (a .t1) (eight c) (now (a .out)) (a .at) (c .before .pre) (c .loop .j) (omega arith)
+    ap length (c .loop .inv .1) ∙ put-kept 0 (a .t1) (eight c) (now (a .out)) (a .at) (c .before .pre) (c .loop .j) (omega arith)
 
 mul-out : tie.Need-mul-out Inv-loop μ-loop
 mul-out c = omega arith
@@ -56,7 +54,7 @@ loop-again : tie.Need-loop-again Inv-loop μ-loop
 loop-again c =
     let turn = c .before in
     let a = turn .before .args in
-    (omega arith, rw (turn .loop .inv .1) (put-more itself (a .t1) (eight turn) (now (a .out)) (a .at) (turn .before .pre) (turn .loop .j) (omega arith) refl))
+    (omega arith, rw (turn .loop .inv .1) (put-more 0 (a .t1) (eight turn) (now (a .out)) (a .at) (turn .before .pre) (turn .loop .j) (omega arith)))
 
 same-length : tie.Need-same-length Inv-loop μ-loop
 same-length c = kept (c .before)
@@ -65,7 +63,7 @@ returns : tie.Need-returns Inv-loop μ-loop
 returns c =
     let a = c .before .before .args in
     let e : c .before .loop .j ≡ 8 = omega arith in
-    c .before .loop .inv .1 ∙ ap (paste (now (a .out)) (a .at) (map itself (a .t1))) e
+    c .before .loop .inv .1 ∙ ap (paste (now (a .out)) (a .at) (a .t1)) e
 
 pub put-patterns-spec : {M : Type 1} → statement M
 put-patterns-spec =

@@ -1,6 +1,6 @@
--- `report::put_opening` meets its contract: five texts, one call after the other. Assumes nothing.
+-- `report::put_opening` meets its contract: four texts, one call after the other. Assumes nothing.
 use borrow.Author.Needs.{needs}
-use Rattle.text.specs.Laws.{many, one}
+use Rattle.text.proofs.Laws.{many}
 use Rattle.report.specs.Report.{openingOf}
 use Rattle.report.proofs.put_opening.Statement.{statement}
 use Rattle.report.proofs.put_opening.Tie as tie
@@ -11,17 +11,14 @@ slice-aggregate-put-text c = search needs
 put-text-requires : tie.Need-put-text-requires
 put-text-requires c κs = search needs
 
-put-decimal-requires : tie.Need-put-decimal-requires
-put-decimal-requires c κs = search needs
+put-field-requires : tie.Need-put-field-requires
+put-field-requires c κs = search needs
+
+put-field-requires-2 : tie.Need-put-field-requires-2
+put-field-requires-2 c κs = search needs
 
 put-byte-requires : tie.Need-put-byte-requires
 put-byte-requires c κs = search needs
-
-put-decimal-requires-2 : tie.Need-put-decimal-requires-2
-put-decimal-requires-2 c κs = search needs
-
-put-byte-requires-2 : tie.Need-put-byte-requires-2
-put-byte-requires-2 c κs = search needs
 
 same-length : tie.Need-same-length
 same-length c = search needs
@@ -32,14 +29,9 @@ unfolding openingOf
 returns c =
     let end = c .before .before in
     let count = end .before .before .before .before in
-    let space = count .before .before .before .before in
-    let version = space .before .before .before .before in
+    let version = count .before .before .before .before in
     let mark = version .before .before .before .before in
-    many _ _ (mark .put-text .ensures)
-    (many _ _ (version .put-decimal .ensures)
-    (one (space .put-byte .ensures)
-    (many _ _ (count .put-decimal2 .ensures)
-    (end .put-byte2 .ensures))))
+    many _ _ (mark .put-text .ensures) (many _ _ (version .put-field .ensures) (many _ _ (count .put-field2 .ensures) (end .put-byte .ensures)))
 
 pub put-opening-spec : {M : Type 1} → statement M
 put-opening-spec =
@@ -47,9 +39,8 @@ put-opening-spec =
     (tie.spec
     slice-aggregate-put-text
     put-text-requires
-    put-decimal-requires
+    put-field-requires
+    put-field-requires-2
     put-byte-requires
-    put-decimal-requires-2
-    put-byte-requires-2
     same-length
     returns)
