@@ -424,7 +424,7 @@ bool bgz_obb2_is_intersect_obb2(bgz_obb2 a, bgz_obb2 b);
  * ---- hatch lists
  *
  * The bytes of a hatch list are `HSL`, a 16-bit version, which is 1, a 16-bit count n of at most 2,000, and n records of
- * eight floats: box (min_x, min_y, max_x, max_y), origin (x, y), direction (x, y). Little-endian; 7 + 32 n bytes in all.
+ * eight floats: box (min_x, min_y, max_x, max_y), point (x, y), direction (x, y). Little-endian; 7 + 32 n bytes in all.
  * 16,000 entries are room for every file.
  */
 
@@ -440,15 +440,18 @@ bgz_read_answer bgz_hatch_read_floats(const uint8_t *bytes, size_t bytes_length,
 /* The same with each float as its bits, so that a NaN keeps them. The same answer and refusals. */
 bgz_read_answer bgz_hatch_read_patterns(const uint8_t *bytes, size_t bytes_length, uint32_t *out, size_t out_length);
 
+/* How many records a list of floats has, eight floats each; an incomplete last one does not count. */
+size_t bgz_hatch_record_count(const float *floats, size_t floats_length);
+
 /*
- * Reads a hatch list into floats as bgz_hatch_read_floats does, clips each record as a line, and writes a report to the
- * start of out: `HSL`, version and count; then for each record a line with its place from 1 and `miss`, or `hit` with tmin
- * and tmax as eight hexadecimal digits of their bits, any zero as 00000000. Fields stand one space apart, and a line ends in
- * \n. For a list that is refused it writes `refused` and the number, and leaves floats as they are.
- * Answers how many bytes it wrote. Bytes that have no room in out are left out; 54,014 are room for every report.
+ * Clips each record of a hatch list as a line, and writes a report to the start of out: `HSL`, version and count; then for
+ * each record a line with its place from 1 and `miss`, or `hit` with tmin and tmax as eight hexadecimal digits of their bits,
+ * any zero as 00000000. Fields stand one space apart, and a line ends in \n. For a list that is refused it writes `refused`
+ * and the number. No NUL is written.
+ * Answers the length of the whole report. If it is above out_length, only its first out_length bytes were written. 54,014
+ * bytes are room for every report.
  */
-size_t bgz_hatch_report(const uint8_t *bytes, size_t bytes_length, float *floats, size_t floats_length,
-                        uint8_t *out, size_t out_length);
+size_t bgz_hatch_report(const uint8_t *bytes, size_t bytes_length, uint8_t *out, size_t out_length);
 
 #ifdef __cplusplus
 }

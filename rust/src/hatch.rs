@@ -1,4 +1,4 @@
-//! Hatch lists: records of eight floats, box, origin and direction.
+//! Hatch lists: records of eight floats, box, point and direction.
 
 /// What was read of a hatch list.
 #[derive(Clone, Copy, Debug, PartialEq, Eq)]
@@ -27,15 +27,11 @@ mod raw {
             room: usize,
         ) -> ReadAnswer;
 
+        #[link_name = "bgz_hatch_record_count"]
+        pub fn record_count(floats: *const f32, length: usize) -> usize;
+
         #[link_name = "bgz_hatch_report"]
-        pub fn report(
-            bytes: *const u8,
-            length: usize,
-            floats: *mut f32,
-            floats_room: usize,
-            out: *mut u8,
-            room: usize,
-        ) -> usize;
+        pub fn report(bytes: *const u8, length: usize, out: *mut u8, room: usize) -> usize;
     }
 }
 
@@ -54,10 +50,15 @@ pub fn read_patterns(bytes: &[u8], out: &mut [u32]) -> Result<Records, u32> {
     unsafe { raw::read_patterns(bytes.as_ptr(), bytes.len(), start, room) }.result()
 }
 
-/// Reads into `floats`, clips each record as a line, writes the report to the start of `out` and answers its length.
+/// How many records a list of floats has, eight floats each; an incomplete last one does not count.
 #[inline]
-pub fn report(bytes: &[u8], floats: &mut [f32], out: &mut [u8]) -> usize {
+pub fn record_count(floats: &[f32]) -> usize {
+    unsafe { raw::record_count(floats.as_ptr(), floats.len()) }
+}
+
+/// Clips each record as a line, writes the report to the start of `out` as far as it has room, and answers the length of the whole report.
+#[inline]
+pub fn report(bytes: &[u8], out: &mut [u8]) -> usize {
     let (start, room) = (out.as_mut_ptr(), out.len());
-    let (floats, floats_room) = (floats.as_mut_ptr(), floats.len());
-    unsafe { raw::report(bytes.as_ptr(), bytes.len(), floats, floats_room, start, room) }
+    unsafe { raw::report(bytes.as_ptr(), bytes.len(), start, room) }
 }

@@ -29,18 +29,26 @@ fn floats_have_those_bits() {
 }
 
 #[test]
+fn an_incomplete_record_does_not_count() {
+    let counts = [0, 7, 8, 15, 16, 17].map(|length| hatch::record_count(&vec![0.0; length]));
+    assert_eq!(counts, [0, 0, 1, 1, 2, 2]);
+}
+
+#[test]
 fn the_report_is_what_the_program_prints() {
-    let (mut floats, mut out) = ([0.0; 16_000], [0xff; 54_014]);
-    let length = hatch::report(SECTION, &mut floats, &mut out);
+    let mut out = [0xff; 54_014];
+    let length = hatch::report(SECTION, &mut out);
     assert_eq!(&out[..length], REPORT);
     assert!(out[length..].iter().all(|&byte| byte == 0xff));
 }
 
 #[test]
-fn a_report_with_no_room_is_cut() {
-    let (mut floats, mut out) = ([0.0; 16_000], [0; 100]);
-    assert_eq!(hatch::report(SECTION, &mut floats, &mut out), 100);
-    assert_eq!(out, REPORT[..100]);
+fn a_report_with_no_room_is_cut_and_counted() {
+    for room in [0, 1, 100, REPORT.len() - 1] {
+        let mut out = vec![0; room];
+        assert_eq!(hatch::report(SECTION, &mut out), REPORT.len());
+        assert_eq!(out, REPORT[..room]);
+    }
 }
 
 #[test]
@@ -69,9 +77,11 @@ fn a_refusal_gives_its_number_and_changes_nothing() {
 
         let mut floats = vec![f32::from_bits(MARKED); room];
         assert_eq!(hatch::read_floats(bytes, &mut floats), Err(number));
-        let mut out = [0; 100];
-        let length = hatch::report(bytes, &mut floats, &mut out);
-        assert_eq!(out[..length], *format!("refused {number}\n").as_bytes());
         assert!(floats.iter().all(|x| x.to_bits() == MARKED));
+        if number != ROOM {
+            let mut out = [0; 100];
+            let length = hatch::report(bytes, &mut out);
+            assert_eq!(out[..length], *format!("refused {number}\n").as_bytes());
+        }
     }
 }

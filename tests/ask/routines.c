@@ -468,11 +468,15 @@ static void hatch_read_patterns(const struct arguments *in, struct answer *out) 
     out->values[1].u = r.count;
 }
 
+static void hatch_record_count(const struct arguments *in, struct answer *out) {
+    out->status = BGZ_ANSWERED;
+    out->values[0].u = bgz_hatch_record_count(in->lists[0].start, in->lists[0].length);
+}
+
 static void hatch_report(const struct arguments *in, struct answer *out) {
     out->status = BGZ_ANSWERED;
     out->values[0].u = bgz_hatch_report(
-        in->lists[2].start, in->lists[2].length, in->lists[0].start, in->lists[0].length,
-        in->lists[1].start, in->lists[1].length);
+        in->lists[1].start, in->lists[1].length, in->lists[0].start, in->lists[0].length);
 }
 
 #define CALL(name) "bgz_" #name, name
@@ -596,8 +600,10 @@ const struct routine routines[] = {
      "room bytes"},
     {NULL, CALL(hatch_read_patterns), "rB", "uB", "uu",
      "room bytes"},
-    {NULL, CALL(hatch_report), "rrB", "fbB", "u",
-     "room room bytes"},
+    {"hatch.record_count", CALL(hatch_record_count), "F", "F", "u",
+     "floats"},
+    {NULL, CALL(hatch_report), "rB", "bB", "u",
+     "room bytes"},
 };
 
 const size_t routine_count = sizeof routines / sizeof routines[0];
