@@ -8,7 +8,7 @@ use lib.Ieee.{Float, nan, inf, fin, lt, isNan}
 use Rattle.axes.specs.Axes.{rangeOf, apartOf, some, projections, separates, meets}
 use Rattle.axes.specs.Disjoint.{+∞, -∞, NumberOf, NumberOfOr, Below, NumbersDecide, SeparatesIfDisjoint, SeparatingAxis}
 use Rattle.axes.proofs.Ends.{range-ends}
-use Rattle.axes.proofs.Order.{lt-itself, lt-not}
+use Rattle.float.proofs.Order.{lt-itself, lt-not}
 
 -- ---- disjoint intervals
 

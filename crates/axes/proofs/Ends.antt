@@ -10,7 +10,7 @@ use Rattle.float.specs.Folds.{foldMin, foldMax}
 use Rattle.float.proofs.Laws.{above-number, below-number}
 use Rattle.axes.specs.Axes.{rangeOf}
 use Rattle.axes.specs.Disjoint.{+∞, -∞, NumberOf, NumberOfOr, RangeEnds, OneRange}
-use Rattle.axes.proofs.Order.{lt-itself, lt-one-way, lt-not}
+use Rattle.float.proofs.Order.{lt-itself, lt-one-way, lt-not}
 
 -- ---- folds
 

@@ -2,5 +2,4 @@ pub mod Disjoint
 pub mod Ends
 pub mod Exchanged
 pub mod First
-pub mod Order
 pub mod Ranges

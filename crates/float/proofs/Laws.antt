@@ -1,47 +1,8 @@
--- What document 01 says of the minimum and the maximum, and when one test is enough for them. Assumes nothing.
+-- When one test is enough for the minimum and the maximum, and which results are numbers. Assumes nothing.
 use mathlib.Core.Path.{_≡_, refl, sym}
 use mathlib.Core.Bool.{Bool, true, false, cond}
-use lib.IntN.{pos}
 use lib.Ieee.{Float, nan, inf, fin, lt, isNan}
 use Rattle.float.specs.Values.{minOf, maxOf, lesserOf, greaterOf, numberOrOf}
-
--- ---- a NaN is dropped, and of two zeros the first is kept
-
-pub min-drops-first : (b : Float) → minOf nan b ≡ b
-unfolding minOf isNan
-min-drops-first b = refl
-
-pub max-drops-first : (b : Float) → maxOf nan b ≡ b
-unfolding maxOf isNan
-max-drops-first b = refl
-
-pub min-drops-second : (a : Float) → minOf a nan ≡ a
-unfolding minOf isNan lt
-min-drops-second nan = refl
-min-drops-second (inf s) = refl
-min-drops-second (fin s m e) = refl
-
-pub max-drops-second : (a : Float) → maxOf a nan ≡ a
-unfolding maxOf isNan lt
-max-drops-second nan = refl
-max-drops-second (inf s) = refl
-max-drops-second (fin s m e) = refl
-
-pub min-first-zero : (s t : Bool) → minOf (fin s 0 (pos 0)) (fin t 0 (pos 0)) ≡ fin s 0 (pos 0)
-unfolding minOf isNan lt
-min-first-zero true true = refl
-min-first-zero true false = refl
-min-first-zero false true = refl
-min-first-zero false false = refl
-
-pub max-first-zero : (s t : Bool) → maxOf (fin s 0 (pos 0)) (fin t 0 (pos 0)) ≡ fin s 0 (pos 0)
-unfolding maxOf isNan lt
-max-first-zero true true = refl
-max-first-zero true false = refl
-max-first-zero false true = refl
-max-first-zero false false = refl
-
--- ---- one test instead of two
 
 -- a number's minimum is one test
 pub lesser-min : (a b : Float) → isNan a ≡ false → lesserOf a b ≡ minOf a b

@@ -1,5 +1,6 @@
 pub mod Fields
 pub mod Folds
+pub mod MinMax
 pub mod Rounded
 pub mod Units
 pub mod Values
