@@ -60,28 +60,24 @@ down-minus m e (pos k) h =
     small (suc j) h = absurd (no-less j (down e) (down-pos e) h)
 down-minus m e (negsuc k) h = neg-le (suc k) (sizeUp m e) (up-least m e .least (suc k) (neg-back (suc k * down e) (m * up e) h))
 
+toward-negative : (x r : Float) (n : ℕ) → HasValue r (sign x) n 1 → T (atMost (signed (sign x) n) x)
+    → ((k : ℤ) → T (atMost k x) → T (leZ k (signed (sign x) n))) → TowardNegative x r
+toward-negative x r n v not-above closest =
+    let is = whole (sign x) n r v in
+    record { n = signed (sign x) n; exact = is .0; not-above = not-above; closest = closest; sign-of-floor = cc (is .1) }
+
 pub floor-is : (x : Float) → T (fits binary32 x) → T (finite x) → TowardNegative x (floorOf x)
 unfolding floorOf
 floor-is nan f h = absurd h
 floor-is (inf s) f h = absurd h
 floor-is (fin false m e) f h =
-    let is = whole false (sizeDown m e) (floorOf (fin false m e)) (down-exact false m e f) in
-    record {
-      n = pos (sizeDown m e);
-      exact = is .0;
-      not-above = le→leb _ (m * up e) (down-greatest m e .not-above);
-      closest = down-plus m e;
-      sign-of-floor = cc (is .1);
-    }
+    toward-negative (fin false m e) _ (sizeDown m e) (down-exact false m e f)
+    (le→leb _ (m * up e) (down-greatest m e .not-above))
+    (down-plus m e)
 floor-is (fin true m e) f h =
-    let is = whole true (sizeUp m e) (floorOf (fin true m e)) (up-exact true m e f) in
-    record {
-      n = negℤ (pos (sizeUp m e));
-      exact = is .0;
-      not-above = rw (scaled (sizeUp m e) (down e)) (neg-le _ _ (up-least m e .not-below));
-      closest = down-minus m e;
-      sign-of-floor = cc (is .1);
-    }
+    toward-negative (fin true m e) _ (sizeUp m e) (up-exact true m e f)
+    (rw (scaled (sizeUp m e) (down e)) (neg-le _ _ (up-least m e .not-below)))
+    (down-minus m e)
 
 -- ---- toward the positive
 
@@ -93,28 +89,24 @@ up-minus : (m : ℕ) (e : ℤ) (k : ℤ) → T (atLeast k (fin true m e)) → T 
 up-minus m e (pos k) h = neg-under (sizeDown m e) k
 up-minus m e (negsuc k) h = neg-le (sizeDown m e) (suc k) (down-greatest m e .greatest (suc k) (neg-back (m * up e) (suc k * down e) h))
 
+toward-positive : (x r : Float) (n : ℕ) → HasValue r (sign x) n 1 → T (atLeast (signed (sign x) n) x)
+    → ((k : ℤ) → T (atLeast k x) → T (leZ (signed (sign x) n) k)) → TowardPositive x r
+toward-positive x r n v not-below closest =
+    let is = whole (sign x) n r v in
+    record { n = signed (sign x) n; exact = is .0; not-below = not-below; closest = closest; sign-of-ceiling = cc (is .1) }
+
 pub ceil-is : (x : Float) → T (fits binary32 x) → T (finite x) → TowardPositive x (ceilOf x)
 unfolding ceilOf
 ceil-is nan f h = absurd h
 ceil-is (inf s) f h = absurd h
 ceil-is (fin false m e) f h =
-    let is = whole false (sizeUp m e) (ceilOf (fin false m e)) (up-exact false m e f) in
-    record {
-      n = pos (sizeUp m e);
-      exact = is .0;
-      not-below = le→leb (m * up e) _ (up-least m e .not-below);
-      closest = up-plus m e;
-      sign-of-ceiling = cc (is .1);
-    }
+    toward-positive (fin false m e) _ (sizeUp m e) (up-exact false m e f)
+    (le→leb (m * up e) _ (up-least m e .not-below))
+    (up-plus m e)
 ceil-is (fin true m e) f h =
-    let is = whole true (sizeDown m e) (ceilOf (fin true m e)) (down-exact true m e f) in
-    record {
-      n = negℤ (pos (sizeDown m e));
-      exact = is .0;
-      not-below = rw (scaled (sizeDown m e) (down e)) (neg-le _ _ (down-greatest m e .not-above));
-      closest = up-minus m e;
-      sign-of-ceiling = cc (is .1);
-    }
+    toward-positive (fin true m e) _ (sizeDown m e) (down-exact true m e f)
+    (rw (scaled (sizeDown m e) (down e)) (neg-le _ _ (down-greatest m e .not-above)))
+    (up-minus m e)
 
 -- ---- one result only
 
