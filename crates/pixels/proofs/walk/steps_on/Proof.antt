@@ -1,6 +1,7 @@
 -- `pixels::steps_on` meets its contract, by the test that led to each answer. Assumes nothing.
 use borrow.Author.Needs.{needs}
 use borrow.Author.Tests.{lt-ltb, le-ltb}
+use Rattle.pixels.specs.Walk.{mostSteps}
 use Rattle.pixels.specs.Post.{stepsOn}
 use Rattle.pixels.proofs.walk.steps_on.Statement.{statement}
 use Rattle.pixels.proofs.walk.steps_on.Tie as tie
@@ -10,11 +11,11 @@ in-ranges-requires c κs = search needs
 
 returns : tie.Need-returns
 unfolding stepsOn
-returns c = rw (lt-ltb _ _ (c .before .if1 .taken), c .in-ranges .ensures)
+returns c = rw (lt-ltb (c .before .before .args .k) mostSteps (c .before .if1 .taken), c .in-ranges .ensures)
 
 returns-2 : tie.Need-returns-2
 unfolding stepsOn
-returns-2 c = rw (le-ltb _ _ (c .if1 .left))
+returns-2 c = rw (le-ltb (c .before .args .k) mostSteps (c .if1 .left))
 
 pub steps-on-spec : {M : Type 1} → statement M
 steps-on-spec = tie.close (tie.spec in-ranges-requires returns returns-2)
