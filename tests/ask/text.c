@@ -108,9 +108,10 @@ static bool read_fields(struct request *request, char *rest) {
             int length;
             const char *name = field_name(request->routine, place, &length);
             bool whole = takes[place] == 'u' || takes[place] == 'r';
+            const char *wrong = whole ? "no whole number of 64 bits"
+                                      : "neither eight hexadecimal digits nor a decimal: past six digits it needs a point";
             snprintf(request->reason, sizeof request->reason, "%s: %.*s is '%.40s', which is %s", request->routine->name,
-                     length, name, field,
-                     whole ? "no whole number of 64 bits" : "neither eight hexadecimal digits nor a decimal");
+                     length, name, field, wrong);
             return false;
         }
         /* A list goes on to the end. */
