@@ -1,11 +1,13 @@
 -- Gottschalk, Lin and Manocha's separating axes, over lists of corners and of axes and for any dot product, so in any dimension.
 -- Where they compare the centres' distance with radii, the folded ranges of the corners' rounded projections decide, as in the Rust.
 -- Definitions only.
-use mathlib.Core.Bool.{Bool, false, not, cond, _||_}
+use mathlib.Core.Bool.{Bool, true, false, not, cond, _||_}
 use mathlib.Core.List.{List, [], _∷_, map}
-use Prim.Native.Nat.{ℕ, suc}
+use Prim.Native.Nat.{suc}
 use lib.Ieee.{Float, lt}
 use Rattle.types.specs.declared.shape.Range.{Range}
+use Rattle.axes.specs.declared.Place.{Place}
+use Rattle.axes.specs.declared.Place.the-variants.{None, At}
 use Rattle.float.specs.Values.{lesserOf, greaterOf}
 use Rattle.float.specs.Folds.{leastOf, greatestOf}
 
@@ -25,16 +27,25 @@ widenedOf r x = record { low = lesserOf (r .low) x; high = greaterOf (r .high) x
 
 -- ---- searching a list
 
+abbrev pub isNoneOf : Place → Bool
+isNoneOf None = true
+isNoneOf (At j) = false
+
+-- one place on
+abbrev pub next : Place → Place
+next None = None
+next (At j) = At (suc j)
+
 module _ {A : Type 0} (f : A → Bool) where
   -- f holds of some element
   unfoldable pub some : List A → Bool
   some [] = false
   some (x ∷ xs) = f x || some xs
 
-  -- the place, from 0, of the first of which it does; the length where there is none
-  unfoldable pub firstOf : List A → ℕ
-  firstOf [] = 0
-  firstOf (x ∷ xs) = cond (f x) 0 (suc (firstOf xs))
+  -- the place of the first of which it does
+  unfoldable pub firstOf : List A → Place
+  firstOf [] = None
+  firstOf (x ∷ xs) = cond (f x) (At 0) (next (firstOf xs))
 
 -- ---- axes
 

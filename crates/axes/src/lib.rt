@@ -1,7 +1,25 @@
-// What a search for a separating axis is made of, in any dimension: the range of projections, and whether two ranges lie apart.
+// What a search for a separating axis is made of, in any dimension: the range of projections, whether two ranges lie apart, and
+// the axis's place.
 use types::Range;
 ghost use mathlib.Core.Path.{_≡_};
-ghost use Rattle.axes.specs.Axes.{widenedOf, apartOf};
+ghost use Rattle.axes.specs.Axes.{isNoneOf, widenedOf, apartOf};
+
+// The place, from 0, of an axis in a list.
+pub enum Place {
+    None,
+    At(usize),
+}
+
+impl Place {
+    pub fn is_none(self) -> bool
+        ensures { λ r. ⌜ r ≡ isNoneOf self ⌝ }
+    {
+        match self {
+            Place::None => true,
+            Place::At(_) => false,
+        }
+    }
+}
 
 // The range widened to hold x. The ends are numbers, so that one test each leaves a NaN out.
 pub fn widened(r: Range, x: f32) -> Range

@@ -1,14 +1,13 @@
 // Turned boxes.
 use c_answers::PointAnswer;
 use obb2::Corners;
-use types::Aabb2;
 use types::Obb2;
 use types::Vec2;
 ghost use mathlib.Core.Path.{_≡_};
 ghost use Rattle.c_answers.specs.Answers.{ofNearest};
 ghost use Rattle.obb2.specs.Corners.{cornerPointsOf};
 ghost use Rattle.obb2.specs.Point.{isIncludePoint2Of, nearestPoint2Of};
-ghost use Rattle.obb2.specs.Promise.{IsIntersectAabb2Promise, IsIntersectObb2Promise};
+ghost use Rattle.obb2.specs.Promise.{IsIntersectObb2Promise};
 
 #[no_mangle]
 pub extern "C" fn bgz_obb2_corner_points(o: Obb2) -> Corners
@@ -29,13 +28,6 @@ pub extern "C" fn bgz_obb2_nearest_point2(o: Obb2, p: Vec2) -> PointAnswer
     ensures { λ r. ⌜ r ≡ ofNearest (nearestPoint2Of o p) ⌝ }
 {
     c_answers::nearest(obb2::nearest_point2(o, p))
-}
-
-#[no_mangle]
-pub extern "C" fn bgz_obb2_is_intersect_aabb2(o: Obb2, b: Aabb2) -> bool
-    ensures { λ r. ⌜ IsIntersectAabb2Promise o b r ⌝ }
-{
-    obb2::is_intersect_aabb2(o, b)
 }
 
 #[no_mangle]

@@ -61,7 +61,7 @@ pub fn is_intersect_aabb2(o: Obb2, b: Aabb2) -> bool
         across(o.ux, o.uy),
         across(o.vx, o.vy),
     ];
-    first_separating(corners(o), upright_corners(b), axes) == 4
+    first_separating(corners(o), upright_corners(b), axes).is_none()
 }
 
 // Whether two turned boxes meet, whichever comes first.
@@ -74,5 +74,5 @@ pub fn is_intersect_obb2(a: Obb2, b: Obb2) -> bool
         across(b.ux, b.uy),
         across(b.vx, b.vy),
     ];
-    first_separating(corners(a), corners(b), axes) == 4
+    first_separating(corners(a), corners(b), axes).is_none()
 }

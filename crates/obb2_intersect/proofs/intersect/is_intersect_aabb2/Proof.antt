@@ -1,4 +1,4 @@
--- `obb2_intersect::is_intersect_aabb2` meets its contract: the place is four exactly if no axis separates. Assumes nothing.
+-- `obb2_intersect::is_intersect_aabb2` meets its contract: there is no place exactly if no axis separates. Assumes nothing.
 use borrow.Author.Needs.{needs}
 use Rattle.obb2_intersect.specs.Intersect.{isIntersectAabb2Of}
 use Rattle.axes.specs.Axes.{meets}
@@ -22,16 +22,20 @@ upright-corners-requires c κs = search needs
 first-separating-requires : tie.Need-first-separating-requires
 first-separating-requires c κs = search needs
 
+is-none-requires : tie.Need-is-none-requires
+is-none-requires c κs = search needs
+
 returns : tie.Need-returns
 unfolding isIntersectAabb2Of meets
 returns c =
     aabb2-promised _ _ _
     (rw (
-      c .first-separating .ensures,
-      c .before .upright-corners .ensures,
-      c .before .before .corners .ensures,
-      c .before .before .before .across2 .ensures,
-      c .before .before .before .before .across .ensures,
+      c .is-none .ensures,
+      c .before .first-separating .ensures,
+      c .before .before .upright-corners .ensures,
+      c .before .before .before .corners .ensures,
+      c .before .before .before .before .across2 .ensures,
+      c .before .before .before .before .before .across .ensures,
     )
     (first-none _ _))
 
@@ -44,4 +48,5 @@ is-intersect-aabb2-spec =
     corners-requires
     upright-corners-requires
     first-separating-requires
+    is-none-requires
     returns)

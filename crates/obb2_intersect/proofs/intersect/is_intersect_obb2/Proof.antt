@@ -1,4 +1,4 @@
--- `obb2_intersect::is_intersect_obb2` meets its contract: the place is four exactly if no axis separates. Assumes nothing.
+-- `obb2_intersect::is_intersect_obb2` meets its contract: there is no place exactly if no axis separates. Assumes nothing.
 use borrow.Author.Needs.{needs}
 use Rattle.obb2_intersect.specs.Intersect.{isIntersectObb2Of}
 use Rattle.axes.specs.Axes.{meets}
@@ -28,18 +28,22 @@ corners-requires-2 c κs = search needs
 first-separating-requires : tie.Need-first-separating-requires
 first-separating-requires c κs = search needs
 
+is-none-requires : tie.Need-is-none-requires
+is-none-requires c κs = search needs
+
 returns : tie.Need-returns
 unfolding isIntersectObb2Of meets
 returns c =
     obb2-promised _ _ _
     (rw (
-      c .first-separating .ensures,
-      c .before .corners2 .ensures,
-      c .before .before .corners .ensures,
-      c .before .before .before .across4 .ensures,
-      c .before .before .before .before .across3 .ensures,
-      c .before .before .before .before .before .across2 .ensures,
-      c .before .before .before .before .before .before .across .ensures,
+      c .is-none .ensures,
+      c .before .first-separating .ensures,
+      c .before .before .corners2 .ensures,
+      c .before .before .before .corners .ensures,
+      c .before .before .before .before .across4 .ensures,
+      c .before .before .before .before .before .across3 .ensures,
+      c .before .before .before .before .before .before .across2 .ensures,
+      c .before .before .before .before .before .before .before .across .ensures,
     )
     (first-none _ _))
 
@@ -54,4 +58,5 @@ is-intersect-obb2-spec =
     corners-requires
     corners-requires-2
     first-separating-requires
+    is-none-requires
     returns)

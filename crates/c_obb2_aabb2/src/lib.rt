@@ -1,0 +1,12 @@
+// A turned and an upright box, apart from c_obb2: each has an archive of its own, in which the search for an axis has one caller, and LLVM
+// inlines it there.
+use types::Aabb2;
+use types::Obb2;
+ghost use Rattle.obb2_intersect.specs.Promise.{IsIntersectAabb2Promise};
+
+#[no_mangle]
+pub extern "C" fn bgz_obb2_is_intersect_aabb2(o: Obb2, b: Aabb2) -> bool
+    ensures { λ r. ⌜ IsIntersectAabb2Promise o b r ⌝ }
+{
+    obb2_intersect::is_intersect_aabb2(o, b)
+}
