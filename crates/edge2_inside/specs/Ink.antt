@@ -15,20 +15,16 @@ use Rattle.root.specs.Root.{sqrtOf}
 abbrev pub sharedOf : Float → Float → Float → Float → Extent.Extent
 sharedOf low high s e = intersectionLengthOf (record { low = low; high = high }) (record { low = minOf s e; high = maxOf s e })
 
--- the overlap in x is known: y decides
-unfoldable pub withY : Float → Extent.Extent → Length
-withY dx extent.None = Some +0
-withY dx (extent.Refused n) = Refused n
-withY dx (extent.Some dy) = Some (sqrtOf (dx ⊗ dx ⊕ dy ⊗ dy))
-
--- where x has no overlap or is refused, y is not looked at
-unfoldable pub withX : Extent.Extent → Extent.Extent → Length
-withX extent.None y = Some +0
-withX (extent.Refused n) y = Refused n
-withX (extent.Some dx) y = withY dx y
+-- the diagonal of the two overlaps; 0 where there is none, and y counts only where x has one
+unfoldable pub diagonalOf : Extent.Extent → Extent.Extent → Length
+diagonalOf extent.None y = Some +0
+diagonalOf (extent.Refused n) y = Refused n
+diagonalOf (extent.Some dx) extent.None = Some +0
+diagonalOf (extent.Some dx) (extent.Refused n) = Refused n
+diagonalOf (extent.Some dx) (extent.Some dy) = Some (sqrtOf (dx ⊗ dx ⊕ dy ⊗ dy))
 
 unfoldable pub intersectionLengthAgainstAabb2Of : Vec2 → Vec2 → Aabb2 → Length
-intersectionLengthAgainstAabb2Of s e b = withX (sharedOf (b .«min_x») (b .«max_x») (s .x) (e .x)) (sharedOf (b .«min_y») (b .«max_y») (s .y) (e .y))
+intersectionLengthAgainstAabb2Of s e b = diagonalOf (sharedOf (b .«min_x») (b .«max_x») (s .x) (e .x)) (sharedOf (b .«min_y») (b .«max_y») (s .y) (e .y))
 
 -- document 01 takes the ink of a stroke to be that length
 unfoldable pub inkOf : Vec2 → Vec2 → Aabb2 → Length

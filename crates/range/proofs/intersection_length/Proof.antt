@@ -4,19 +4,16 @@ use Rattle.range.specs.Values.{intersectionLengthOf}
 use Rattle.range.proofs.intersection_length.Statement.{statement}
 use Rattle.range.proofs.intersection_length.Tie as tie
 
+unordered-requires : tie.Need-unordered-requires
+unordered-requires c κs = search needs
+
 returns : tie.Need-returns
 unfolding intersectionLengthOf
-returns c = rw (c .before .before .before .before .before .if1 .taken, c .before .before .before .if2 .taken, c .if3 .taken)
+returns c = rw (← c .before .unordered .ensures, c .if1 .taken)
 
 returns-2 : tie.Need-returns-2
 unfolding intersectionLengthOf
-returns-2 c =
-    rw (
-      c .before .before .before .before .before .before .before .before .if1 .taken,
-      c .before .before .before .before .before .before .if2 .taken,
-      c .before .before .before .if3 .left,
-      c .if4 .taken,
-    )
+returns-2 c = rw (← c .before .before .before .before .before .before .unordered .ensures, c .before .before .before .before .before .if1 .left, c .if2 .taken)
 
 min-requires : tie.Need-min-requires
 min-requires c κs = search needs
@@ -26,24 +23,7 @@ max-requires c κs = search needs
 
 returns-3 : tie.Need-returns-3
 unfolding intersectionLengthOf
-returns-3 c =
-    rw (
-      c .before .before .before .before .before .before .before .before .before .before .if1 .taken,
-      c .before .before .before .before .before .before .before .before .if2 .taken,
-      c .before .before .before .before .before .if3 .left,
-      c .before .before .if4 .left,
-      c .before .min .ensures,
-      c .max .ensures,
-    )
-
-returns-4 : tie.Need-returns-4
-unfolding intersectionLengthOf
-returns-4 c = rw (c .before .before .if1 .taken, c .if2 .left)
-
-returns-5 : tie.Need-returns-5
-unfolding intersectionLengthOf
-returns-5 c = rw (c .if1 .left)
+returns-3 c = rw (← c .before .before .before .before .before .before .before .before .unordered .ensures, c .before .before .before .before .before .before .before .if1 .left, c .before .before .if2 .left, c .before .min .ensures, c .max .ensures)
 
 pub intersection-length-spec : {M : Type 1} → statement M
-intersection-length-spec =
-    tie.close (tie.spec returns returns-2 min-requires max-requires returns-3 returns-4 returns-5)
+intersection-length-spec = tie.close (tie.spec unordered-requires returns returns-2 min-requires max-requires returns-3)
