@@ -10,9 +10,11 @@ use Rattle.tiles.specs.Tiles.{tilesOf}
 use Rattle.tiles.specs.Answer.{overlappingTilesOf}
 use Rattle.lists.specs.Lent.{fitted}
 use Rattle.lists.specs.Places.{upto}
-use Rattle.pixels.specs.Walk.{stepOf, axisOf, at, within, inRanges, firstOutside, exit, positions}
-use Rattle.pixels.specs.Entries.{onSide, inSides, number, kept, pixels, entries, strokeOf}
-use Rattle.pixels.specs.Answer.{sidesTooLarge, withinLimit, firstOffender, sameEnds, overlappingPixelsDdaOf}
+use Rattle.stroke.specs.Walk.{stepOf, axisOf, at, within, inRanges, firstOutside, exit, positions}
+use Rattle.stroke.specs.Image.{onSide, inSides}
+use Rattle.pixels.specs.Entries.{number, kept, pixels, entries, strokeOf}
+use Rattle.stroke.specs.Check.{sidesTooLarge, withinLimit, firstOffender, sameEnds}
+use Rattle.pixels.specs.Answer.{overlappingPixelsDdaOf}
 use Rattle.figures.specs.Claim.{FiguresHold}
 
 pub hold : FiguresHold

@@ -12,12 +12,13 @@ use Rattle.types.specs.declared.answer.Listed.{Listed}
 use Rattle.types.specs.declared.answer.Listed.the-variants.{Count, Refused}
 use Rattle.float.proofs.Tests.{neither}
 use Rattle.lists.specs.Lent.{written, fitted, leaves}
-use Rattle.pixels.specs.declared.axis.Axis.{Axis}
-use Rattle.pixels.specs.Walk.{exit, positions, alongX, alongY}
+use Rattle.stroke.specs.declared.axis.Axis.{Axis}
+use Rattle.stroke.specs.Walk.{exit, positions, alongX, alongY}
 use Rattle.pixels.specs.Entries.{entries, strokeOf}
-use Rattle.pixels.specs.Answer.{sidesTooLarge}
-use Rattle.pixels.specs.Post.{Sized, entered, Drawn, closed, Closed}
-use Rattle.pixels.proofs.Accepted.{Accepted, sized-x, sized-y}
+use Rattle.stroke.specs.Check.{sidesTooLarge}
+use Rattle.stroke.specs.Steps.{Sized}
+use Rattle.pixels.specs.Post.{entered, Drawn, closed, Closed}
+use Rattle.stroke.proofs.Accepted.{Accepted, sized-x, sized-y}
 use Rattle.pixels.proofs.Writing.{closed-length}
 
 -- the entries es for the list l: what is answered, and the list afterwards

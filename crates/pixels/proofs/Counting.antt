@@ -5,12 +5,13 @@ use native.Mathlib.Numerals.{add-one}
 use native.Mathlib.Omega.{arith}
 use lib.ListN.{length}
 use Rattle.types.specs.declared.shape.Vec2.{Vec2}
-use Rattle.pixels.specs.declared.axis.Axis.{Axis}
-use Rattle.pixels.specs.Walk.{position}
-use Rattle.pixels.specs.Entries.{onImage}
+use Rattle.stroke.specs.declared.axis.Axis.{Axis}
+use Rattle.stroke.specs.Walk.{position}
+use Rattle.stroke.specs.Image.{onImage}
 use Rattle.pixels.proofs.Lists.{entered-none, entered-more, entered-le, entered-few}
-use Rattle.pixels.specs.Post.{oneIf, entered, first, next}
-use Rattle.pixels.proofs.Walking.{first-is, next-is}
+use Rattle.stroke.specs.Steps.{first, next}
+use Rattle.pixels.specs.Post.{oneIf, entered}
+use Rattle.stroke.proofs.Walking.{first-is, next-is}
 
 -- p is position k, and n of the positions before are in the image
 pub record Counting (w h : ℕ) (a b : Axis) (p : Vec2) (n k : ℕ) : Type 0 where

@@ -1,9 +1,5 @@
-pub mod Outside
-pub mod Stops
-pub mod Accepted
 pub mod Lists
 pub mod Casts
-pub mod Walking
 pub mod Counting
 pub mod Writing
 pub mod Answers

@@ -7,9 +7,10 @@ use native.Mathlib.Omega.{arith}
 use lib.ListN.{length, length-append}
 use Rattle.types.specs.declared.shape.Vec2.{Vec2}
 use Rattle.lists.specs.Places.{upto}
-use Rattle.pixels.specs.declared.axis.Axis.{Axis}
-use Rattle.pixels.specs.Walk.{position}
-use Rattle.pixels.specs.Entries.{onImage, number, keepIf, kept, pixels}
+use Rattle.stroke.specs.declared.axis.Axis.{Axis}
+use Rattle.stroke.specs.Walk.{position}
+use Rattle.stroke.specs.Image.{onImage}
+use Rattle.pixels.specs.Entries.{number, keepIf, kept, pixels}
 use Rattle.pixels.specs.Post.{oneIf, entered}
 
 -- ---- one position more

@@ -8,17 +8,19 @@ use native.Mathlib.Numerals.{add-one}
 use native.Mathlib.Omega.{arith}
 use lib.ListN.{length, set, drop, length-append, length-drop}
 use Rattle.types.specs.declared.shape.Vec2.{Vec2}
-use Rattle.pixels.specs.declared.axis.Axis.{Axis}
+use Rattle.stroke.specs.declared.axis.Axis.{Axis}
 use Rattle.pixels.specs.declared.walk.Reached.{Reached}
 use Rattle.rounded.specs.Size.{Size}
 use Rattle.rounded.proofs.Sizes.{size-wider}
 use Rattle.lists.specs.Lent.{written}
 use Rattle.lists.proofs.Fill.{store-next}
-use Rattle.pixels.specs.Walk.{at, position, mostSteps}
-use Rattle.pixels.specs.Entries.{onImage, number, keepIf}
-use Rattle.pixels.proofs.Outside.{at-size}
+use Rattle.stroke.specs.Walk.{at, position, mostSteps}
+use Rattle.stroke.specs.Image.{onImage}
+use Rattle.pixels.specs.Entries.{number, keepIf}
+use Rattle.stroke.proofs.Outside.{at-size}
 use Rattle.pixels.proofs.Lists.{entered-none, entered-suc, entered-more, entered-le}
-use Rattle.pixels.specs.Post.{Sized, oneIf, setIf, entered, first, next, Drawn, Bounded, Entered, closed, Closed}
+use Rattle.stroke.specs.Steps.{Sized, first, next}
+use Rattle.pixels.specs.Post.{oneIf, setIf, entered, Drawn, Bounded, Entered, closed, Closed}
 use Rattle.pixels.proofs.Counting.{Counting, counting-none, counting-le, counting-more}
 
 -- a position of an accepted walk

@@ -1,40 +1,13 @@
 -- What `overlapping_pixels_dda` answers, document 01's refusals among it. Definitions only.
-use mathlib.Core.Bool.{Bool, cond, _&&_, _||_}
-use mathlib.Core.List.{List, [], _∷_}
-use Prim.Native.Nat.{ℕ, suc}
+use mathlib.Core.Bool.{cond}
+use Prim.Native.Nat.{ℕ}
 use lib.Dec.{ltb}
-use lib.Ieee.{Float, binary32, ofBits, le, eq}
 use Rattle.types.specs.declared.shape.Vec2.{Vec2}
 use Rattle.types.specs.declared.answer.Listed.{Listed}
 use Rattle.types.specs.declared.answer.Listed.the-variants.{Refused}
-use Rattle.float.specs.Values.{absOf}
 use Rattle.lists.specs.Lent.{fitted}
+use Rattle.stroke.specs.Check.{sidesTooLarge, firstOffender, coordinates, sameEnds}
 use Rattle.pixels.specs.Entries.{strokeOf}
-
--- an image side above 16,384
-unfoldable pub sidesTooLarge : ℕ → ℕ → Bool
-sidesTooLarge w h = ltb 16384 w || ltb 16384 h
-
--- 65,536
-abbrev pub limit : Float
-limit = ofBits binary32 0x4780_0000
-
--- finite and at most 65,536 in size, which no NaN and no infinity is
-unfoldable pub withinLimit : Float → Bool
-withinLimit x = le (absOf x) limit
-
--- the place of the first coordinate that is not within the limit, from 0 on, and the list's length if there is none
-unfoldable pub firstOffender : List Float → ℕ
-firstOffender [] = 0
-firstOffender (x ∷ xs) = cond (withinLimit x) (suc (firstOffender xs)) 0
-
--- in the order of the arguments
-abbrev pub coordinates : Vec2 → Vec2 → List Float
-coordinates p q = p .x ∷ p .y ∷ q .x ∷ q .y ∷ []
-
--- equal as numbers: +0 equals -0
-unfoldable pub sameEnds : Vec2 → Vec2 → Bool
-sameEnds p q = eq (p .x) (q .x) && eq (p .y) (q .y)
 
 -- the refusals in their order, and else the number of the stroke's entries
 unfoldable pub overlappingPixelsDdaOf : ℕ → ℕ → Vec2 → Vec2 → ℕ → Listed

@@ -1,29 +1,12 @@
 -- The entries of a stroke: the positions inside the image, numbered, and the closing entry. Definitions only.
-use mathlib.Core.Bool.{Bool, true, false, _&&_}
+use mathlib.Core.Bool.{Bool, true, false}
 use mathlib.Core.List.{List, [], _∷_, _++_, map}
 use Prim.Native.Nat.{ℕ, _+_, _*_}
-use lib.IntN.{pos}
-use lib.Ieee.{Float, binary32, lt, le, ofInt, toUnsigned}
+use lib.Ieee.{toUnsigned}
 use Rattle.types.specs.declared.shape.Vec2.{Vec2}
-use Rattle.float.specs.Rounded.{+0}
-use Rattle.pixels.specs.declared.axis.Axis.{Axis}
-use Rattle.pixels.specs.Walk.{position, exit, positions, alongX, alongY}
-
--- ---- inside the image
-
--- a coordinate on a side of this length: at least 0 and below it
-unfoldable pub onSide : Float → Float → Bool
-onSide side x = le +0 x && lt x side
-
--- in an image whose sides are the floats `wide` and `high`
-unfoldable pub inSides : Float → Float → Vec2 → Bool
-inSides wide high p = onSide wide (p .x) && onSide high (p .y)
-
--- in an image w by h
-abbrev pub onImage : ℕ → ℕ → Vec2 → Bool
-onImage w h p = inSides (ofInt binary32 (pos w)) (ofInt binary32 (pos h)) p
-
--- ---- numbered
+use Rattle.stroke.specs.declared.axis.Axis.{Axis}
+use Rattle.stroke.specs.Image.{onImage}
+use Rattle.stroke.specs.Walk.{position, exit, positions, alongX, alongY}
 
 -- row × width + column, each coordinate cut to an integer, a negative one to 0
 unfoldable pub number : ℕ → Vec2 → ℕ

@@ -1,5 +1,3 @@
-pub mod Walk
-pub mod Stops
 pub mod Entries
 pub mod Answer
 pub mod Post

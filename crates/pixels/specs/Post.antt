@@ -1,42 +1,22 @@
 -- What the functions of the walk ask of each other and hand on. Definitions only.
 use mathlib.Core.Path.{_≡_}
-use mathlib.Core.Bool.{Bool, true, false, _&&_}
+use mathlib.Core.Bool.{Bool, true, false}
 use mathlib.Core.List.{List, [], _∷_, _++_}
 use Prim.Native.Nat.{ℕ, _≤_}
 use lib.Dec.{ltb}
 use lib.ListN.{length, set}
 use Rattle.types.specs.declared.shape.Vec2.{Vec2}
-use Rattle.float.specs.Rounded.{_⊕_}
 use Rattle.lists.specs.Lent.{written}
 use Rattle.lists.specs.Places.{upto}
 use Rattle.rounded.specs.Size.{Size}
-use Rattle.pixels.specs.declared.axis.Axis.{Axis}
+use Rattle.stroke.specs.declared.axis.Axis.{Axis}
+use Rattle.stroke.specs.Walk.{position, exit}
+use Rattle.stroke.specs.Steps.{Sized}
 use Rattle.pixels.specs.declared.walk.Measured.{Measured}
 use Rattle.pixels.specs.declared.walk.Reached.{Reached}
-use Rattle.pixels.specs.Walk.{position, inRanges, mostSteps, exit}
 use Rattle.pixels.specs.Entries.{number, pixels}
 
--- ---- positions
-
-abbrev pub first : Axis → Axis → Vec2
-first a b = record { x = a .start; y = b .start }
-
--- one step after p
-abbrev pub next : Axis → Axis → Vec2 → Vec2
-next a b p = record { x = p .x ⊕ a .slope; y = p .y ⊕ b .slope }
-
--- after k steps the walk is at p: whether it takes another
-unfoldable pub stepsOn : Axis → Axis → Vec2 → ℕ → Bool
-stepsOn a b p k = ltb k mostSteps && inRanges a b p
-
 -- ---- what is asked
-
--- an axis of an accepted stroke: it starts at a coordinate of at most 65,536 in size, and steps by one at most
-pub record Sized (a : Axis) : Type 0 where
-  pub start-size : Size 65536 (a .start)
-  pub slope-size : Size 1 (a .slope)
-  pub low-size : Size 65537 (a .low)
-  pub high-size : Size 65537 (a .high)
 
 -- an image and two axes as an accepted stroke has them
 pub record Drawn (w h : ℕ) (a b : Axis) : Type 0 where

@@ -1,31 +1,11 @@
-// Positions in an image, and the numbers of its pixels.
+// The numbers of an image's pixels.
 use types::Vec2;
 ghost use mathlib.Core.Path.{_≡_};
 ghost use Prim.Native.Nat.{_≤_};
 ghost use lib.Ieee.{toUnsigned};
-ghost use Rattle.pixels.specs.Entries.{onSide, inSides, number};
+ghost use Rattle.pixels.specs.Entries.{number};
 ghost use Rattle.rounded.specs.Size.{Size};
 ghost use Rattle.pixels.specs.Post.{Bounded};
-
-// At least 0 and below the side.
-fn on_side(side: f32, x: f32) -> bool
-    ensures { λ r. ⌜ r ≡ onSide side x ⌝ }
-{
-    if x >= 0.0 {
-        return x < side;
-    }
-    false
-}
-
-// Whether p is in an image with these sides.
-pub(crate) fn in_sides(wide: f32, high: f32, p: Vec2) -> bool
-    ensures { λ r. ⌜ r ≡ inSides wide high p ⌝ }
-{
-    if on_side(wide, p.x) {
-        return on_side(high, p.y);
-    }
-    false
-}
 
 // Cut to an integer, a negative one to 0.
 pub(crate) fn cut(x: f32) -> usize

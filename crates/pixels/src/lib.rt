@@ -1,6 +1,4 @@
 // The pixels that a stroke passes, by a walk from its first end in steps of at most one pixel.
-mod axis;
-mod check;
 mod image;
 mod walk;
 

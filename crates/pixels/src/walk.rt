@@ -1,16 +1,7 @@
-// The walk of a stroke over an image. It is counted before anything is written, since a list that is too short stays as it is.
-use crate::axis::Axis;
-use crate::axis::axis_of;
-use crate::axis::first;
-use crate::axis::in_ranges;
-use crate::axis::next;
-use crate::axis::step_of;
-use crate::check::first_offender;
-use crate::check::same_ends;
-use crate::check::sides_too_large;
+// The entries of a stroke's walk over an image. They are counted before anything is written, since a list that is too short stays as it is.
 use crate::image::cut;
-use crate::image::in_sides;
 use crate::image::pixel;
+use stroke::Axis;
 use types::Listed;
 use types::Vec2;
 ghost use mathlib.Core.Path.{_≡_};
@@ -19,40 +10,17 @@ ghost use Prim.Native.Nat.{ℕ, _+_, _≤_, _<_};
 ghost use lib.ListN.{length};
 ghost use Rattle.types.specs.declared.answer.Listed.the-variants.{Count};
 ghost use Rattle.lists.specs.Lent.{fitted, leaves};
-ghost use Rattle.pixels.specs.Walk.{mostSteps, exit, alongX, alongY};
-ghost use Rattle.pixels.specs.Stops.{Stops};
-ghost use Rattle.pixels.specs.Entries.{inSides, number, entries, strokeOf};
+ghost use Rattle.stroke.specs.Walk.{mostSteps, alongX, alongY};
+ghost use Rattle.stroke.specs.Stops.{Stops};
+ghost use Rattle.stroke.specs.Image.{inSides};
+ghost use Rattle.pixels.specs.Entries.{number, entries, strokeOf};
 ghost use Rattle.pixels.specs.Answer.{overlappingPixelsDdaOf};
-ghost use Rattle.pixels.specs.Post.{stepsOn, Drawn, Bounded, oneIf, setIf, entered, Measures, Entered, Closed};
+ghost use Rattle.pixels.specs.Post.{Drawn, Bounded, oneIf, setIf, entered, Measures, Entered, Closed};
 
 fn one_if(t: bool) -> usize
     ensures { λ r. ⌜ r ≡ oneIf t ⌝ }
 {
     if t { 1 } else { 0 }
-}
-
-// Whether the walk takes a step from p, having taken k. No accepted walk takes more than 131,074, so the first test decides nothing where
-// arithmetic is IEEE 754's. On a processor set to flush subnormals a slope may be 0 / 0, and then it is what ends the walk.
-fn steps_on(a: Axis, b: Axis, p: Vec2, k: usize) -> bool
-    ensures { λ r. ⌜ r ≡ stepsOn a b p k ⌝ }
-{
-    if k < 131074 {
-        return in_ranges(a, b, p);
-    }
-    false
-}
-
-// How many steps the walk takes until it leaves the ends' ranges.
-fn exit_of(a: Axis, b: Axis) -> usize
-    ensures { λ r. ⌜ r ≡ exit a b ⌝ }
-{
-    let mut p = first(a, b);
-    let mut k = 0usize;
-    while steps_on(a, b, p, k) {
-        p = next(a, b, p);
-        k += 1;
-    }
-    k
 }
 
 // How many steps the walk takes, and whether a list has room for its entries and a closing one.
@@ -68,12 +36,12 @@ fn measure_counting(room: usize, width: usize, height: usize, a: Axis, b: Axis) 
 {
     let wide = width as f32;
     let high = height as f32;
-    let mut p = first(a, b);
+    let mut p = stroke::first(a, b);
     let mut n = 0usize;
     let mut k = 0usize;
-    while steps_on(a, b, p, k) {
-        n += one_if(in_sides(wide, high, p));
-        p = next(a, b, p);
+    while stroke::steps_on(a, b, p, k) {
+        n += one_if(stroke::in_sides(wide, high, p));
+        p = stroke::next(a, b, p);
         k += 1;
     }
     Measured {
@@ -89,7 +57,7 @@ fn measure(room: usize, guess: usize, width: usize, height: usize, a: Axis, b: A
     ensures { λ r. ⌜ Measures width height a b room r ⌝ }
 {
     if guess < room {
-        let steps = exit_of(a, b);
+        let steps = stroke::exit_of(a, b);
         if steps < room {
             return Measured { steps, fits: true };
         }
@@ -103,7 +71,7 @@ fn enter(list: &mut [u32], n: usize, width: usize, wide: f32, high: f32, p: Vec2
     ensures { λ r. ⌜ (r ≡ n + oneIf (inSides wide high p))
         × (now (list .exit) ≡ setIf (inSides wide high p) (now (list .entry)) n (number width p)) ⌝ }
 {
-    if in_sides(wide, high, p) {
+    if stroke::in_sides(wide, high, p) {
         list[n] = pixel(width, p);
         return n + 1;
     }
@@ -130,12 +98,12 @@ fn enter_all(
 {
     let wide = width as f32;
     let high = height as f32;
-    let mut p = first(a, b);
+    let mut p = stroke::first(a, b);
     let mut n = 0usize;
     let mut k = 0usize;
     while k < steps {
         n = enter(list, n, width, wide, high, p);
-        p = next(a, b, p);
+        p = stroke::next(a, b, p);
         k += 1;
     }
     Reached {
@@ -181,18 +149,18 @@ pub fn overlapping_pixels_dda(
     ensures leaves { λ r. ⌜ now (list .exit) ≡ leaves r (strokeOf width height p0 p1) (now (list .entry)) ⌝ }
     ensures stops { λ r. ⌜ ((n : ℕ) → r ≡ Count n → Stops (alongX p0 p1) (alongY p0 p1)) ⌝ }
 {
-    if sides_too_large(width, height) {
+    if stroke::sides_too_large(width, height) {
         return Listed::Refused(types::refusal::SIZE);
     }
-    if first_offender(p0, p1) < 4 {
+    if stroke::first_offender(p0, p1) < 4 {
         return Listed::Refused(types::refusal::COORDINATE);
     }
-    if same_ends(p0, p1) {
+    if stroke::same_ends(p0, p1) {
         return Listed::Refused(types::refusal::SAME_ENDS);
     }
-    let step = step_of(p0, p1);
-    let a = axis_of(step, p0.x, p1.x);
-    let b = axis_of(step, p0.y, p1.y);
+    let step = stroke::step_of(p0, p1);
+    let a = stroke::axis_of(step, p0.x, p1.x);
+    let b = stroke::axis_of(step, p0.y, p1.y);
     // Steps of one along the longer difference, and one past its end: the walk rarely takes more.
     let guess = cut(step) + 1;
     fill(list, guess, width, height, a, b)

@@ -2,7 +2,7 @@
 use mathlib.Core.Path.{sym, _∙_}
 use borrow.Author.Needs.{needs}
 use borrow.Author.Tests.{ltb-true}
-use Rattle.pixels.proofs.Stops.{exit-le}
+use Rattle.stroke.proofs.Stops.{exit-le}
 use Rattle.pixels.proofs.Answers.{with-room, without-room}
 use Rattle.pixels.proofs.walk.fill.Statement.{statement}
 use Rattle.pixels.proofs.walk.fill.Tie as tie

@@ -5,11 +5,12 @@ use mathlib.Core.Bool.{true}
 use Prim.Native.Nat.{ℕ, _+_, _-_, _<_}
 use native.Mathlib.Omega.{arith}
 use lib.Dec.{ltb}
-use Rattle.pixels.specs.Walk.{mostSteps}
+use Rattle.stroke.specs.Walk.{mostSteps}
 use Rattle.pixels.proofs.Lists.{one-le}
-use Rattle.pixels.specs.Post.{oneIf, stepsOn}
+use Rattle.stroke.specs.Steps.{stepsOn}
+use Rattle.pixels.specs.Post.{oneIf}
 use Rattle.pixels.proofs.Casts.{side-float}
-use Rattle.pixels.proofs.Walking.{Walking, walking-none, walking-few, walking-more, walking-end}
+use Rattle.stroke.proofs.Walking.{Walking, walking-none, walking-few, walking-more, walking-end}
 use Rattle.pixels.proofs.Counting.{Counting, counting-none, counting-few, counting-more}
 use Rattle.pixels.proofs.walk.measure_counting.Statement.{statement}
 use Rattle.pixels.proofs.walk.measure_counting.Tie as tie

@@ -10,9 +10,10 @@ use Rattle.rounded.specs.Size.{Size}
 use Rattle.rounded.proofs.Sizes.{size-wider}
 use Rattle.lists.specs.Lent.{leaves}
 use Rattle.lists.proofs.Lent.{no-count}
-use Rattle.pixels.specs.Walk.{stepOf, axisOf}
-use Rattle.pixels.specs.Answer.{sidesTooLarge, firstOffender, coordinates, sameEnds, overlappingPixelsDdaOf}
-use Rattle.pixels.proofs.Accepted.{AreFloats, Accepted, accepted, step-size, stroke-stops}
+use Rattle.stroke.specs.Walk.{stepOf, axisOf}
+use Rattle.stroke.specs.Check.{sidesTooLarge, firstOffender, coordinates, sameEnds}
+use Rattle.pixels.specs.Answer.{overlappingPixelsDdaOf}
+use Rattle.stroke.proofs.Accepted.{AreFloats, Accepted, accepted, step-size, stroke-stops}
 use Rattle.pixels.proofs.Answers.{Made, made-drawn, made-listing}
 use Rattle.pixels.proofs.walk.overlapping_pixels_dda.Statement.{statement}
 use Rattle.pixels.proofs.walk.overlapping_pixels_dda.Tie as tie

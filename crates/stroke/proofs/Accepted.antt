@@ -1,0 +1,135 @@
+-- An accepted stroke: what the tests say of its ends, and that its walk leaves their ranges by itself. Assumes nothing.
+use mathlib.Core.Path.{_≡_, refl, sym, subst}
+use mathlib.Core.Bool.{Bool, true, false, _&&_, _||_, cond, true≢false}
+use mathlib.Core.Logic.{_⊎_, inl, inr}
+use mathlib.Core.List.{List, [], _∷_}
+use Prim.Native.Nat.{ℕ, suc, _*_, _≤_}
+use native.Mathlib.Nat.{mul-one}
+use native.Mathlib.Omega.{arith}
+use lib.IntN.{pos}
+use lib.Dec.{T, lit≤}
+use lib.Ieee.{Float, nan, inf, fin, binary32, up, lt, le, eq, isNan, fits, ofBits}
+use Rattle.types.specs.declared.shape.Vec2.{Vec2}
+use Rattle.float.specs.Rounded.{_⊖_, _⊘_, epsilon}
+use Rattle.float.specs.Values.{absOf, minOf, maxOf}
+use Rattle.rounded.specs.Size.{Size}
+use Rattle.rounded.proofs.Round.{le-num}
+use Rattle.rounded.proofs.Sizes.{cond-size, abs-size, add-size, sub-size}
+use Rattle.rounded.proofs.Apart.{NonZero, apart}
+use Rattle.rounded.proofs.Slopes.{Slopes, slopes}
+use Rattle.stroke.specs.Walk.{stepOf, axisOf, alongX, alongY}
+use Rattle.stroke.specs.Stops.{Stops}
+use Rattle.stroke.specs.Check.{withinLimit, firstOffender, coordinates, sameEnds}
+use Rattle.stroke.specs.Steps.{Sized}
+use Rattle.stroke.proofs.Outside.{Major, outside}
+use Rattle.stroke.proofs.Stops.{stops}
+
+-- ---- what the tests say
+
+-- a coordinate that is accepted: an f32 of at most 65,536 in size
+pub record Coordinate (x : Float) : Type 0 where
+  pub fit : T (fits binary32 x)
+  pub size : Size 65536 x
+
+pub record Accepted (p q : Vec2) : Type 0 where
+  pub x0 : Coordinate (p .x)
+  pub y0 : Coordinate (p .y)
+  pub x1 : Coordinate (q .x)
+  pub y1 : Coordinate (q .y)
+  pub differ : (eq (p .x) (q .x) ≡ false) ⊎ (eq (p .y) (q .y) ≡ false)
+
+-- all four coordinates are f32
+pub record AreFloats (p q : Vec2) : Type 0 where
+  pub x0 : fits binary32 (p .x) ≡ true
+  pub y0 : fits binary32 (p .y) ≡ true
+  pub x1 : fits binary32 (q .x) ≡ true
+  pub y1 : fits binary32 (q .y) ≡ true
+
+either : (a b : Bool) → (a && b) ≡ false → (a ≡ false) ⊎ (b ≡ false)
+either true b e = inr e
+either false b e = inl refl
+
+limit-size : (x : Float) → withinLimit x ≡ true → Size 65536 x
+unfolding withinLimit absOf ofBits le lt eq
+limit-size nan t = absurd (true≢false (sym t))
+limit-size (inf s) t = absurd (true≢false (sym t))
+limit-size (fin s m e) t = omega (arith, le-num m e 1 (pos 16) (subst T (sym t) tt), mul-one (m * up e))
+
+coordinate : (x : Float) → fits binary32 x ≡ true → withinLimit x ≡ true → Coordinate x
+coordinate x f t = record { fit = subst T (sym f) tt; size = limit-size x t }
+
+-- one coordinate is within the limit, and n more are
+within-more : (n : ℕ) (x : Float) (xs : List Float) → suc n ≤ firstOffender (x ∷ xs) → (withinLimit x ≡ true) × (n ≤ firstOffender xs)
+unfolding firstOffender
+within-more n x xs = go (withinLimit x)
+  where
+    go : (t : Bool) → suc n ≤ cond t (suc (firstOffender xs)) 0 → (t ≡ true) × (n ≤ firstOffender xs)
+    go true h = (refl, omega arith)
+    go false h = absurd (let z : ⊥ = omega arith in z)
+
+pub accepted : {p q : Vec2} → AreFloats p q → 4 ≤ firstOffender (coordinates p q) → sameEnds p q ≡ false → Accepted p q
+unfolding sameEnds
+accepted {p} {q} f t d =
+    let x0 = within-more 3 (p .x) (p .y ∷ q .x ∷ q .y ∷ []) t in
+    let y0 = within-more 2 (p .y) (q .x ∷ q .y ∷ []) (x0 .1) in
+    let x1 = within-more 1 (q .x) (q .y ∷ []) (y0 .1) in
+    let y1 = within-more 0 (q .y) [] (x1 .1) in
+    record {
+      x0 = coordinate (p .x) (f .x0) (x0 .0);
+      y0 = coordinate (p .y) (f .y0) (y0 .0);
+      x1 = coordinate (q .x) (f .x1) (x1 .0);
+      y1 = coordinate (q .y) (f .y1) (y1 .0);
+      differ = either (eq (p .x) (q .x)) (eq (p .y) (q .y)) d;
+    }
+
+-- ---- its two axes
+
+difference-size : {x y : Float} → Coordinate x → Coordinate y → Size 131072 (y ⊖ x)
+difference-size {x} {y} a b = sub-size 65536 65536 y x (b .size) (a .size) (lit≤ tt)
+
+difference-nonzero : {x y : Float} → Coordinate x → Coordinate y → eq x y ≡ false → NonZero (y ⊖ x)
+difference-nonzero {x} {y} a b h = apart x y 65536 65536 (a .fit) (b .fit) (a .size) (b .size) h
+
+epsilon-size : Size 1 epsilon
+unfolding ofBits
+epsilon-size = lit≤ tt
+
+axis-sized : (step p q : Float) → Size 65536 p → Size 65536 q → Size 1 ((q ⊖ p) ⊘ step) → Sized (axisOf step p q)
+unfolding axisOf minOf maxOf
+axis-sized step p q h k l = record {
+  start-size = h;
+  slope-size = l;
+  low-size = sub-size 65536 1 (minOf p q) epsilon (cond-size (isNan p || lt q p) 65536 p q h k) epsilon-size (lit≤ tt);
+  high-size = add-size 65536 1 (maxOf p q) epsilon (cond-size (isNan p || lt p q) 65536 p q h k) epsilon-size (lit≤ tt);
+}
+
+module _ {p q : Vec2} (w : Accepted p q) where
+  slopes-of : Slopes ((q .x ⊖ p .x) ⊘ stepOf p q) ((q .y ⊖ p .y) ⊘ stepOf p q)
+  unfolding stepOf
+  slopes-of = slopes (q .x ⊖ p .x) (q .y ⊖ p .y) 131072 131072 (difference-size (w .x0) (w .x1)) (difference-size (w .y0) (w .y1)) nonzero
+    where
+      nonzero : NonZero (q .x ⊖ p .x) ⊎ NonZero (q .y ⊖ p .y)
+      nonzero = elim (w .differ) [ inl h ↦ inl (difference-nonzero (w .x0) (w .x1) h) | inr h ↦ inr (difference-nonzero (w .y0) (w .y1) h) ]
+
+  -- neither difference is more than 131,072 in size, and so nor is the larger one
+  pub step-size : Size 131072 (stepOf p q)
+  unfolding stepOf maxOf
+  step-size =
+      let x = absOf (q .x ⊖ p .x) in
+      let y = absOf (q .y ⊖ p .y) in
+      cond-size (isNan x || lt x y) 131072 x y
+      (abs-size 131072 (q .x ⊖ p .x) (difference-size (w .x0) (w .x1)))
+      (abs-size 131072 (q .y ⊖ p .y) (difference-size (w .y0) (w .y1)))
+
+  pub sized-x : Sized (alongX p q)
+  sized-x = axis-sized (stepOf p q) (p .x) (q .x) (w .x0 .size) (w .x1 .size) (slopes-of .first-size)
+
+  pub sized-y : Sized (alongY p q)
+  sized-y = axis-sized (stepOf p q) (p .y) (q .y) (w .y0 .size) (w .y1 .size) (slopes-of .second-size)
+
+  major : Major (alongX p q) ⊎ Major (alongY p q)
+  unfolding axisOf
+  major = slopes-of .major
+
+  pub stroke-stops : Stops (alongX p q) (alongY p q)
+  stroke-stops = stops (alongX p q) (alongY p q) (outside sized-x sized-y major)

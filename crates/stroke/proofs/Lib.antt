@@ -1,0 +1,4 @@
+pub mod Outside
+pub mod Stops
+pub mod Accepted
+pub mod Walking

@@ -1,0 +1,74 @@
+-- A walk with steps of 1 or -1 on one of its axes is outside its ranges after 131,074 steps: that coordinate has passed 65,537, where its range
+-- ends at the latest. Assumes nothing.
+use mathlib.Core.Path.{_≡_, refl, sym, _∙_, subst}
+use mathlib.Core.Bool.{Bool, true, false, _&&_}
+use mathlib.Core.Logic.{_⊎_, inl, inr}
+use Prim.Native.Nat.{ℕ, zero, suc, _+_, _≤_, _<_}
+use native.Mathlib.Omega.{arith}
+use borrow.Author.Tests.{not-true}
+use lib.Ieee.{Float, neg, lt}
+use Rattle.float.specs.Rounded.{_⊕_}
+use Rattle.float.proofs.Negated.{neg-lt}
+use Rattle.float.proofs.Tests.{neither}
+use Rattle.rounded.specs.Size.{Size}
+use Rattle.rounded.proofs.Sizes.{size-wider, neg-size, add-size}
+use Rattle.rounded.proofs.Step.{Past, Under, unit, directed, under-of-size, past-of-size, step, past-under, under-not}
+use Rattle.stroke.specs.declared.axis.Axis.{Axis}
+use Rattle.stroke.specs.Walk.{at, within, inRanges, goesOn, mostSteps}
+use Rattle.stroke.specs.Steps.{Sized}
+
+-- ---- sizes
+
+-- each step adds at most one
+pub at-size : {a : Axis} → Sized a → (k : ℕ) → k ≤ mostSteps → Size (65536 + k) (at a k)
+unfolding at
+at-size s zero h = s .start-size
+at-size {a} s (suc k) h =
+    let e : 65536 + k + 1 ≡ 65536 + suc k = omega arith in
+    subst (λ (j : ℕ). Size j (at a (suc k))) e (add-size (65536 + k) 1 (at a k) (a .slope) (at-size s k (omega arith)) (s .slope-size) (omega arith))
+
+directed-size : (s : Bool) (k : ℕ) (x : Float) → Size k x → Size k (directed s x)
+directed-size false k x h = h
+directed-size true k x h = neg-size k x h
+
+-- ---- how far steps of one have gone
+
+-- the axis takes steps of 1 or -1
+abbrev pub Major : Axis → Type 0
+Major a = (s : Bool) × (a .slope ≡ unit s)
+
+past-at : {a : Axis} → Sized a → (m : Major a) (k : ℕ) → k ≤ mostSteps → Past (65536 + k) (directed (m .0) (at a k))
+unfolding at
+past-at {a} z m zero h = past-of-size 65536 (directed (m .0) (a .start)) (omega arith) (directed-size (m .0) 65536 (a .start) (z .start-size))
+past-at {a} z m (suc k) h =
+    let s = m .0 in
+    let e : suc (65536 + k) ≡ 65536 + suc k = omega arith in
+    let u = size-wider (65536 + k) 8388608 (at a k) (omega arith) (at-size z k (omega arith)) in
+    subst (λ (d : Float). Past (65536 + suc k) (directed s (at a k ⊕ d))) (sym (m .1))
+    (subst (λ (j : ℕ). Past j (directed s (at a k ⊕ unit s))) e
+    (step s (65536 + k) (at a k) (past-at z m k (omega arith)) (under-of-size 8388608 (directed s (at a k)) (directed-size s 8388608 (at a k) u))))
+
+-- within its range it is at most 65,537 in the direction of its steps
+within-under : {a : Axis} → Sized a → (s : Bool) (j : ℕ) (x : Float) → Past j (directed s x) → within a x ≡ true → Under 65537 (directed s x)
+unfolding within
+within-under {a} z false j x p w = under-not j 65537 x (a .high) p (under-of-size 65537 (a .high) (z .high-size)) (neither (lt x (a .low)) (lt (a .high) x) (not-true _ w) .1)
+within-under {a} z true j x p w =
+    under-not j 65537 (neg x) (neg (a .low)) p (under-of-size 65537 (neg (a .low)) (neg-size 65537 (a .low) (z .low-size)))
+    (neg-lt (a .low) x ∙ neither (lt x (a .low)) (lt (a .high) x) (not-true _ w) .0)
+
+few : {a : Axis} → Sized a → Major a → (k : ℕ) → k ≤ mostSteps → within a (at a k) ≡ true → k < mostSteps
+few {a} z m k h w =
+    let p = past-at z m k h in
+    omega (arith, past-under (65536 + k) 65537 (directed (m .0) (at a k)) p (within-under z (m .0) (65536 + k) (at a k) p w))
+
+-- ---- so it is outside
+
+pub outside : {a b : Axis} → Sized a → Sized b → Major a ⊎ Major b → goesOn a b mostSteps ≡ false
+unfolding inRanges
+outside {a} {b} y z m = go (within a (at a mostSteps)) (within b (at b mostSteps)) refl refl m
+  where
+    go : (u v : Bool) → within a (at a mostSteps) ≡ u → within b (at b mostSteps) ≡ v → Major a ⊎ Major b → (u && v) ≡ false
+    go false v p q m = refl
+    go true false p q m = refl
+    go true true p q (inl i) = absurd (omega (arith, few y i mostSteps (omega arith) p))
+    go true true p q (inr i) = absurd (omega (arith, few z i mostSteps (omega arith) q))

@@ -1,0 +1,5 @@
+pub mod Walk
+pub mod Stops
+pub mod Image
+pub mod Check
+pub mod Steps

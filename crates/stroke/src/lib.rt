@@ -1,0 +1,17 @@
+// A stroke as its walk sees it: two axes, the positions, where the walk leaves the ranges of its ends, and what is tested before.
+mod axis;
+mod check;
+mod image;
+mod walk;
+
+pub use axis::Axis;
+pub use axis::axis_of;
+pub use axis::first;
+pub use axis::next;
+pub use axis::step_of;
+pub use check::first_offender;
+pub use check::same_ends;
+pub use check::sides_too_large;
+pub use image::in_sides;
+pub use walk::exit_of;
+pub use walk::steps_on;
