@@ -1,4 +1,4 @@
-// Boxes whatever their dimension: the clip, and what is inside.
+// Upright boxes: clipping lines, and what is inside.
 use c_answers::IntervalAnswer;
 use types::Aabb2;
 use types::Vec2;
@@ -7,6 +7,10 @@ ghost use Rattle.c_answers.specs.Answers.{ofInterval};
 ghost use Rattle.aabb.specs.Clip.{intersectionsAgainstLineOf, intersectionsAgainstRayOf};
 ghost use Rattle.aabb.specs.Inside.{isIncludePointOf, centerOf};
 
+// The stretch of the line `origin` + t * `direction` in the box `b`: tmin <= tmax, both finite. None if the line misses `b`;
+// touching an edge or a corner is a hit. Where a component of `direction` is a zero, that dimension only tests that `origin` is not
+// outside. t keeps its sign: a line may be in the box only at negative t.
+// Example: (0, 0, 4, 2), (6, -1), (-1, 1) gives (2, 3).
 #[no_mangle]
 pub extern "C" fn bgz_aabb_intersections_against_line(
     b: Aabb2,
@@ -18,6 +22,8 @@ pub extern "C" fn bgz_aabb_intersections_against_line(
     c_answers::interval(aabb::intersections_against_line(b, origin, direction))
 }
 
+// The line's answer if tmax >= 0, and else none. tmin is not raised to 0: it may be negative.
+// Example: (0, 0, 4, 2), (2, 1), (1, 0) gives (-2, 2).
 #[no_mangle]
 pub extern "C" fn bgz_aabb_intersections_against_ray(
     b: Aabb2,
@@ -29,6 +35,8 @@ pub extern "C" fn bgz_aabb_intersections_against_ray(
     c_answers::interval(aabb::intersections_against_ray(b, origin, direction))
 }
 
+// Whether `p` is in `b`, edges included. A NaN is outside.
+// Example: (0, 0, 4, 2), (4, 1) gives true.
 #[no_mangle]
 pub extern "C" fn bgz_aabb_is_include_point(b: Aabb2, p: Vec2) -> bool
     ensures { λ r. ⌜ r ≡ isIncludePointOf b p ⌝ }
@@ -36,6 +44,8 @@ pub extern "C" fn bgz_aabb_is_include_point(b: Aabb2, p: Vec2) -> bool
     aabb::is_include_point(b, p)
 }
 
+// (low + high) * 0.5, by component.
+// Example: (0, 0, 4, 2) gives (2, 1).
 #[no_mangle]
 pub extern "C" fn bgz_aabb_center(b: Aabb2) -> Vec2
     ensures { λ r. ⌜ r ≡ centerOf b ⌝ }

@@ -1,4 +1,4 @@
-// Upright boxes.
+// Upright boxes: making, changing and measuring them, their pixels and tiles, and flat lists of them.
 use c_answers::BoxAnswer;
 use c_answers::CountAnswer;
 use c_answers::PixelsAnswer;
@@ -18,6 +18,9 @@ ghost use Rattle.aabb2.specs.Raster.{rasterizeOf};
 ghost use Rattle.aabb2.specs.Change.{maxEdgeSizeOf, transformHomogeneousOf, toTransformationWorld2unitOrthoPreserveAspOf, scaleOf, translateOf};
 ghost use Rattle.aabb2.specs.Distance.{isIntersectSquareOf, nearestPoint2Of, sdfOf};
 
+// The box from `p` - `radius` to `p` + `radius`.
+// Refused: `RADIUS` if `radius` is not at least 0, as with a NaN.
+// Example: (3, 4), 1 gives (2, 3, 4, 5).
 #[no_mangle]
 pub extern "C" fn bgz_aabb2_from_point(p: Vec2, radius: f32) -> BoxAnswer
     ensures { λ r. ⌜ r ≡ ofBoxed (fromPointOf p radius) ⌝ }
@@ -25,6 +28,9 @@ pub extern "C" fn bgz_aabb2_from_point(p: Vec2, radius: f32) -> BoxAnswer
     c_answers::boxed(aabb2::from_point(p, radius))
 }
 
+// The box around the two boxes from `p` - `radius` to `p` + `radius` and from `q` - `radius` to `q` + `radius`. Any radius is
+// taken.
+// Example: (0, 0), (3, 1), 1 gives (-1, -1, 4, 2).
 #[no_mangle]
 pub extern "C" fn bgz_aabb2_from_two_points(p: Vec2, q: Vec2, radius: f32) -> Aabb2
     ensures { λ r. ⌜ r ≡ fromTwoPointsOf p q radius ⌝ }
@@ -32,6 +38,8 @@ pub extern "C" fn bgz_aabb2_from_two_points(p: Vec2, q: Vec2, radius: f32) -> Aa
     aabb2::from_two_points(p, q, radius)
 }
 
+// The box around two boxes: minimum of the low corners, maximum of the high ones.
+// Example: (0, 0, 1, 1), (2, -1, 3, 0) gives (0, -1, 3, 1).
 #[no_mangle]
 pub extern "C" fn bgz_aabb2_from_two_aabbs(a: Aabb2, b: Aabb2) -> Aabb2
     ensures { λ r. ⌜ r ≡ fromTwoAabbsOf a b ⌝ }
@@ -39,6 +47,9 @@ pub extern "C" fn bgz_aabb2_from_two_aabbs(a: Aabb2, b: Aabb2) -> Aabb2
     aabb2::from_two_aabbs(a, b)
 }
 
+// `b` widened to hold the box from `p` - `radius` to `p` + `radius`.
+// Refused: `RADIUS` if `radius` is not at least 0, as with a NaN.
+// Example: (0, 0, 1, 1), (3, 0), 0 gives (0, 0, 3, 1).
 #[no_mangle]
 pub extern "C" fn bgz_aabb2_add_point(b: Aabb2, p: Vec2, radius: f32) -> BoxAnswer
     ensures { λ r. ⌜ r ≡ ofBoxed (addPointOf b p radius) ⌝ }
@@ -46,7 +57,9 @@ pub extern "C" fn bgz_aabb2_add_point(b: Aabb2, p: Vec2, radius: f32) -> BoxAnsw
     c_answers::boxed(aabb2::add_point(b, p, radius))
 }
 
-// Through a box that is lent and widened where it stands.
+// `aabb2::add_point`, whose box is lent inside and widened where it stands.
+// Refused: `RADIUS` if `radius` is not at least 0, as with a NaN.
+// Example: (0, 0, 1, 1), (3, 0), 0 gives (0, 0, 3, 1).
 #[no_mangle]
 pub extern "C" fn bgz_aabb2_add_point_lent(b: Aabb2, p: Vec2, radius: f32) -> BoxAnswer
     ensures { λ r. ⌜ r ≡ ofBoxed (addPointOf b p radius) ⌝ }
@@ -54,6 +67,11 @@ pub extern "C" fn bgz_aabb2_add_point_lent(b: Aabb2, p: Vec2, radius: f32) -> Bo
     c_answers::boxed(aabb2_lent::add_point_by_value(b, p, radius))
 }
 
+// The pixels of an image of `width` by `height` whose centres lie in `b`, low edge in and high edge out. x0 and y0 are not held to
+// the image, so x0 may be above x1, and y0 above y1: then there are none. A NaN in the low corner gives 0, and in the high corner
+// the whole side. A side may be 0.
+// Refused: `SIZE` if `width` or `height` is above 16,384.
+// Example: (0.25, 0.25, 2.5, 1.75), 8, 8 gives (0, 0, 2, 2).
 #[no_mangle]
 pub extern "C" fn bgz_aabb2_rasterize(b: Aabb2, width: usize, height: usize) -> PixelsAnswer
     ensures { λ r. ⌜ r ≡ ofPixels (rasterizeOf b width height) ⌝ }
@@ -61,6 +79,8 @@ pub extern "C" fn bgz_aabb2_rasterize(b: Aabb2, width: usize, height: usize) -> 
     c_answers::pixels(aabb2::rasterize(b, width, height))
 }
 
+// The same as `aabb::center`.
+// Example: (0, 0, 4, 2) gives (2, 1).
 #[no_mangle]
 pub extern "C" fn bgz_aabb2_center(b: Aabb2) -> Vec2
     ensures { λ r. ⌜ r ≡ centerOf b ⌝ }
@@ -68,6 +88,8 @@ pub extern "C" fn bgz_aabb2_center(b: Aabb2) -> Vec2
     aabb2::center(b)
 }
 
+// The longer of the two sides, high - low.
+// Example: (0, 0, 4, 2) gives 4.
 #[no_mangle]
 pub extern "C" fn bgz_aabb2_max_edge_size(b: Aabb2) -> f32
     ensures { λ r. ⌜ r ≡ maxEdgeSizeOf b ⌝ }
@@ -75,6 +97,10 @@ pub extern "C" fn bgz_aabb2_max_edge_size(b: Aabb2) -> f32
     aabb2::max_edge_size(b)
 }
 
+// The box around the images of the four corners of `b` under `m`. A coordinate that is a NaN is left out; where all four are, the
+// box goes from +infinity to -infinity.
+// Refused: `NO_IMAGE` if a corner has none: see `mat3::transform_homogeneous`.
+// Example: (0, 0, 1, 1), (2, 0, 0, 0, 2, 0, 1, 0, 1) gives (1, 0, 3, 2).
 #[no_mangle]
 pub extern "C" fn bgz_aabb2_transform_homogeneous(b: Aabb2, m: Mat3) -> BoxAnswer
     ensures { λ r. ⌜ r ≡ ofBoxed (transformHomogeneousOf b m) ⌝ }
@@ -82,6 +108,9 @@ pub extern "C" fn bgz_aabb2_transform_homogeneous(b: Aabb2, m: Mat3) -> BoxAnswe
     c_answers::boxed(aabb2::transform_homogeneous(b, m))
 }
 
+// The transform that takes `b` into the unit square, both axes scaled by 1 / (the longer side), the centre to (0.5, 0.5). A box
+// whose longer side is 0 gives infinities or NaN.
+// Example: (0, 0, 4, 2) gives (0.25, 0, 0, 0, 0.25, 0, 0, 0.25, 1).
 #[no_mangle]
 pub extern "C" fn bgz_aabb2_to_transformation_world2unit_ortho_preserve_asp(b: Aabb2) -> Mat3
     ensures { λ r. ⌜ r ≡ toTransformationWorld2unitOrthoPreserveAspOf b ⌝ }
@@ -89,6 +118,8 @@ pub extern "C" fn bgz_aabb2_to_transformation_world2unit_ortho_preserve_asp(b: A
     aabb2::to_transformation_world2unit_ortho_preserve_asp(b)
 }
 
+// The same as `aabb::is_include_point`.
+// Example: (0, 0, 4, 2), (5, 1) gives false.
 #[no_mangle]
 pub extern "C" fn bgz_aabb2_is_include_point2(b: Aabb2, p: Vec2) -> bool
     ensures { λ r. ⌜ r ≡ isIncludePointOf b p ⌝ }
@@ -96,6 +127,8 @@ pub extern "C" fn bgz_aabb2_is_include_point2(b: Aabb2, p: Vec2) -> bool
     aabb2::is_include_point2(b, p)
 }
 
+// Whether the square from `p` - `radius` to `p` + `radius` overlaps `b`. Touching is not overlapping.
+// Example: (0, 0, 4, 2), (5, 1), 2 gives true.
 #[no_mangle]
 pub extern "C" fn bgz_aabb2_is_intersect_square(b: Aabb2, p: Vec2, radius: f32) -> bool
     ensures { λ r. ⌜ r ≡ isIntersectSquareOf b p radius ⌝ }
@@ -103,6 +136,9 @@ pub extern "C" fn bgz_aabb2_is_intersect_square(b: Aabb2, p: Vec2, radius: f32) 
     aabb2::is_intersect_square(b, p, radius)
 }
 
+// The point of `b` that is nearest to `p`; `p` itself if it is in `b`. A NaN in `p` is kept.
+// Refused: `ORDER` if `b` is not low <= high in x, then in y, as with a NaN.
+// Example: (0, 0, 4, 2), (6, 1) gives (4, 1).
 #[no_mangle]
 pub extern "C" fn bgz_aabb2_nearest_point2(b: Aabb2, p: Vec2) -> PointAnswer
     ensures { λ r. ⌜ r ≡ ofNearest (nearestPoint2Of b p) ⌝ }
@@ -110,6 +146,8 @@ pub extern "C" fn bgz_aabb2_nearest_point2(b: Aabb2, p: Vec2) -> PointAnswer
     c_answers::nearest(aabb2::nearest_point2(b, p))
 }
 
+// The signed distance from `p` to the edge of `b`: positive outside, negative inside, but for rounding.
+// Example: (0, 0, 4, 2), (7, 6) gives 5.
 #[no_mangle]
 pub extern "C" fn bgz_aabb2_sdf(b: Aabb2, p: Vec2) -> f32
     ensures { λ r. ⌜ r ≡ sdfOf b p ⌝ }
@@ -117,6 +155,8 @@ pub extern "C" fn bgz_aabb2_sdf(b: Aabb2, p: Vec2) -> f32
     aabb2::sdf(b, p)
 }
 
+// `b` with its sides `s` times as long, about its centre. A negative `s` exchanges the corners.
+// Example: (0, 0, 4, 2), 2 gives (-2, -1, 6, 3).
 #[no_mangle]
 pub extern "C" fn bgz_aabb2_scale(b: Aabb2, s: f32) -> Aabb2
     ensures { λ r. ⌜ r ≡ scaleOf b s ⌝ }
@@ -124,6 +164,8 @@ pub extern "C" fn bgz_aabb2_scale(b: Aabb2, s: f32) -> Aabb2
     aabb2::scale(b, s)
 }
 
+// `b` moved by `t`.
+// Example: (0, 0, 4, 2), (1, 1) gives (1, 1, 5, 3).
 #[no_mangle]
 pub extern "C" fn bgz_aabb2_translate(b: Aabb2, t: Vec2) -> Aabb2
     ensures { λ r. ⌜ r ≡ translateOf b t ⌝ }
@@ -131,6 +173,8 @@ pub extern "C" fn bgz_aabb2_translate(b: Aabb2, t: Vec2) -> Aabb2
     aabb2::translate(b, t)
 }
 
+// How many whole boxes a flat list has: its length / 4, rounded down. Each box is min_x, min_y, max_x, max_y.
+// Example: [0, 0, 1, 1, 2] gives 1.
 #[no_mangle]
 pub extern "C" fn bgz_aabb2_count(all: &[f32]) -> usize
     ensures { λ r. ⌜ r ≡ countOf (now (all .entry)) ⌝ }
@@ -138,6 +182,9 @@ pub extern "C" fn bgz_aabb2_count(all: &[f32]) -> usize
     aabb2_view::count_aabbs(all)
 }
 
+// The box at an index of a flat list, from 0.
+// Refused: `INDEX` if `index` is not below `aabb2::count`.
+// Example: [0, 0, 1, 1, 2, 2, 3, 3], 1 gives (2, 2, 3, 3).
 #[no_mangle]
 pub extern "C" fn bgz_aabb2_from_aabbs(all: &[f32], index: usize) -> BoxAnswer
     ensures { λ r. ⌜ r ≡ ofBoxed (fromAabbsOf (now (all .entry)) index) ⌝ }
@@ -145,6 +192,9 @@ pub extern "C" fn bgz_aabb2_from_aabbs(all: &[f32], index: usize) -> BoxAnswer
     c_answers::boxed(aabb2_view::from_aabbs(all, index))
 }
 
+// The first box of a flat list.
+// Refused: `INDEX` if the list has fewer than 4 floats.
+// Example: [0, 0, 1, 1] gives (0, 0, 1, 1).
 #[no_mangle]
 pub extern "C" fn bgz_aabb2_from_slice(s: &[f32]) -> BoxAnswer
     ensures { λ r. ⌜ r ≡ ofBoxed (fromAabbsOf (now (s .entry)) 0) ⌝ }
@@ -152,6 +202,14 @@ pub extern "C" fn bgz_aabb2_from_slice(s: &[f32]) -> BoxAnswer
     c_answers::boxed(aabb2_view::from_slice(s))
 }
 
+// The tiles that `b` overlaps, on a sheet of `shape_width` by `shape_height` square tiles of side `size`: columns from
+// floor(min_x / `size`) up to and with floor(max_x / `size`), rows likewise, each quotient rounded; those off the sheet are skipped.
+// A tile's number is row * `shape_width` + column. A box reversed in x has a column only if both ends lie in it, and likewise a row
+// in y. A side of the shape may be 0.
+// Writes the numbers, rising, to the start of `out` and answers how many; 0 is an answer too.
+// Refused: `SIZE` if `size` is 0 or above 4,096, or `shape_width` or `shape_height` is above 16,384; `COORDINATE` if a coordinate
+// of `b` is not finite or is above 1,048,576 in size; `ROOM` if `out` is shorter than the tiles.
+// Example: (5, 5, 25, 12), 10, 4, 4, [0; 8] gives 6 and leaves [0, 1, 2, 4, 5, 6, 0, 0].
 #[no_mangle]
 pub extern "C" fn bgz_aabb2_overlapping_tiles(
     b: Aabb2,

@@ -13,24 +13,28 @@ use types::Vec2;
 ghost use mathlib.Core.Path.{_≡_};
 ghost use Rattle.c_answers.specs.Answers.{ofExtent, ofLength, ofImage, ofNearest, ofBoxed, ofInterval, ofPixels, ofListed};
 
+// A number.
 #[repr(C)]
 pub struct FloatAnswer {
     pub status: u32,
     pub value: f32,
 }
 
+// A point.
 #[repr(C)]
 pub struct PointAnswer {
     pub status: u32,
     pub value: Vec2,
 }
 
+// An upright box.
 #[repr(C)]
 pub struct BoxAnswer {
     pub status: u32,
     pub value: Aabb2,
 }
 
+// The stretch of a line or a ray in a box, by the parameters t of its two ends: the points origin + t * direction.
 #[repr(C)]
 pub struct IntervalAnswer {
     pub status: u32,
@@ -38,6 +42,7 @@ pub struct IntervalAnswer {
     pub tmax: f32,
 }
 
+// Columns from x0 up to and without x1, rows from y0 up to and without y1.
 #[repr(C)]
 pub struct PixelsAnswer {
     pub status: u32,
@@ -47,6 +52,7 @@ pub struct PixelsAnswer {
     pub y1: usize,
 }
 
+// How many entries were written.
 #[repr(C)]
 pub struct CountAnswer {
     pub status: u32,

@@ -1,4 +1,4 @@
-// Edges.
+// Edges, and pen strokes along them.
 use c_answers::CountAnswer;
 use c_answers::FloatAnswer;
 use edge2::OnEdge;
@@ -18,6 +18,8 @@ ghost use Rattle.edge2.specs.Measure.{lengthOf, squaredLengthOf, unitEdgeVector
 ghost use Rattle.edge2.specs.Nearest.{nearestOriginOf, nearestToPointOf};
 ghost use Rattle.edge2.specs.Ink.{intersectionLengthAgainstAabb2Of, inkOf};
 
+// The length of the edge from `s` to `e`.
+// Example: (0, 0), (3, 4) gives 5.
 #[no_mangle]
 pub extern "C" fn bgz_edge2_length(s: Vec2, e: Vec2) -> f32
     ensures { λ r. ⌜ r ≡ lengthOf s e ⌝ }
@@ -25,6 +27,8 @@ pub extern "C" fn bgz_edge2_length(s: Vec2, e: Vec2) -> f32
     edge2::length(s, e)
 }
 
+// The squared length of the edge from `s` to `e`.
+// Example: (0, 0), (3, 4) gives 25.
 #[no_mangle]
 pub extern "C" fn bgz_edge2_squared_length(s: Vec2, e: Vec2) -> f32
     ensures { λ r. ⌜ r ≡ squaredLengthOf s e ⌝ }
@@ -32,6 +36,8 @@ pub extern "C" fn bgz_edge2_squared_length(s: Vec2, e: Vec2) -> f32
     edge2::squared_length(s, e)
 }
 
+// The direction from `s` to `e`: `e` - `s` times 1 / length. An edge whose computed length is 0 gives infinities or NaN.
+// Example: (0, 0), (0, 2) gives (0, 1).
 #[no_mangle]
 pub extern "C" fn bgz_edge2_unit_edge_vector(s: Vec2, e: Vec2) -> Vec2
     ensures { λ r. ⌜ r ≡ unitEdgeVectorOf s e ⌝ }
@@ -39,6 +45,8 @@ pub extern "C" fn bgz_edge2_unit_edge_vector(s: Vec2, e: Vec2) -> Vec2
     edge2::unit_edge_vector(s, e)
 }
 
+// (1 - `ratio`) * `p0` + `ratio` * `p1`: `p0` at 0, `p1` at 1. Any ratio is taken.
+// Example: (0, 0), (4, 8), 0.25 gives (1, 2).
 #[no_mangle]
 pub extern "C" fn bgz_edge2_position_from_ratio(p0: Vec2, p1: Vec2, ratio: f32) -> Vec2
     ensures { λ r. ⌜ r ≡ positionFromRatioOf p0 p1 ratio ⌝ }
@@ -46,6 +54,9 @@ pub extern "C" fn bgz_edge2_position_from_ratio(p0: Vec2, p1: Vec2, ratio: f32) 
     edge2::position_from_ratio(p0, p1, ratio)
 }
 
+// The dot product of `pe` - `ps` and `q`, divided by the length of `pe` - `ps`. This is del-geo-core's formula: `q` is measured from
+// the origin and not from `ps`, and the result is a length and not a ratio.
+// Example: (0, 0), (4, 0), (3, 1) gives 3.
 #[no_mangle]
 pub extern "C" fn bgz_edge2_ratio_from_position(ps: Vec2, pe: Vec2, q: Vec2) -> f32
     ensures { λ r. ⌜ r ≡ ratioFromPositionOf ps pe q ⌝ }
@@ -53,6 +64,9 @@ pub extern "C" fn bgz_edge2_ratio_from_position(ps: Vec2, pe: Vec2, q: Vec2) -> 
     edge2::ratio_from_position(ps, pe, q)
 }
 
+// Whether the upright boxes of two edges meet, widened by 2^-23 times the sum of their sides. Where they do not, the edges cannot
+// cross.
+// Example: (0, 0), (1, 1), (2, 2), (3, 3) gives false.
 #[no_mangle]
 pub extern "C" fn bgz_edge2_culling_intersection(s0: Vec2, e0: Vec2, s1: Vec2, e1: Vec2) -> bool
     ensures { λ r. ⌜ r ≡ cullingIntersectionOf s0 e0 s1 e1 ⌝ }
@@ -60,6 +74,9 @@ pub extern "C" fn bgz_edge2_culling_intersection(s0: Vec2, e0: Vec2, s1: Vec2, e
     edge2::culling_intersection(s0, e0, s1, e1)
 }
 
+// The point of the edge from `s` to `e` that is nearest to (0, 0), with its ratio. An edge whose computed squared length is 0 gives
+// its midpoint, with ratio 0.5.
+// Example: (-1, 1), (1, 1) gives (0.5, (0, 1)).
 #[no_mangle]
 pub extern "C" fn bgz_edge2_nearest_origin(s: Vec2, e: Vec2) -> OnEdge
     ensures { λ r. ⌜ r ≡ nearestOriginOf s e ⌝ }
@@ -67,6 +84,9 @@ pub extern "C" fn bgz_edge2_nearest_origin(s: Vec2, e: Vec2) -> OnEdge
     edge2::nearest_origin(s, e)
 }
 
+// The point of the edge from `s` to `e` that is nearest to `p`, with its ratio. An edge whose computed squared length is 0 gives its
+// midpoint, with ratio 0.5.
+// Example: (0, 0), (4, 0), (1, 5) gives (0.25, (1, 0)).
 #[no_mangle]
 pub extern "C" fn bgz_edge2_nearest_to_point(s: Vec2, e: Vec2, p: Vec2) -> OnEdge
     ensures { λ r. ⌜ r ≡ nearestToPointOf s e p ⌝ }
@@ -74,6 +94,12 @@ pub extern "C" fn bgz_edge2_nearest_to_point(s: Vec2, e: Vec2, p: Vec2) -> OnEdg
     edge2::nearest_to_point(s, e, p)
 }
 
+// The length of the edge from `s` to `e` in the box `b`, as del-geo-core takes it: the diagonal of what the box's range and the
+// range between the ends share in x and in y. 0 if they share nothing in x, or nothing in y. It is the exact length only where the
+// edge runs from corner to corner of what is shared.
+// Refused: `ORDER` if in x the box is not low <= high, as with a NaN, or both ends are NaN; then, unless x shares nothing, the same
+// in y.
+// Example: (0, 0), (3, 4), (0, 0, 3, 4) gives 5.
 #[no_mangle]
 pub extern "C" fn bgz_edge2_intersection_length_against_aabb2(
     s: Vec2,
@@ -85,6 +111,10 @@ pub extern "C" fn bgz_edge2_intersection_length_against_aabb2(
     c_answers::length(edge2::intersection_length_against_aabb2(s, e, b))
 }
 
+// The ink that the stroke from `s` to `e` leaves in the box `b`: `edge2::intersection_length_against_aabb2`, with its refusal.
+// Refused: `ORDER` if in x the box is not low <= high, as with a NaN, or both ends are NaN; then, unless x shares nothing, the same
+// in y.
+// Example: (0, 0), (6, 8), (0, 0, 3, 4) gives 5.
 #[no_mangle]
 pub extern "C" fn bgz_edge2_ink(s: Vec2, e: Vec2, b: Aabb2) -> FloatAnswer
     ensures { λ r. ⌜ r ≡ ofLength (inkOf s e b) ⌝ }
@@ -92,6 +122,14 @@ pub extern "C" fn bgz_edge2_ink(s: Vec2, e: Vec2, b: Aabb2) -> FloatAnswer
     c_answers::length(edge2::ink(s, e, b))
 }
 
+// The pixels under the stroke from `p0` to `p1`, in an image of `width` by `height` pixels; a side may be 0. A walk starts at `p0`.
+// Each step adds the difference of the ends divided by the larger absolute difference, signs kept. The walk goes on while x and y
+// lie within the ends' ranges, widened by 2^-23. Each position in the image enters row * `width` + column. The position after them
+// enters the same as a closing entry, a negative coordinate as 0: it may name a pixel of the next row, or none.
+// Writes the entries to the start of `list` and answers how many, which is never above 131,075.
+// Refused: `SIZE` if `width` or `height` is above 16,384; `COORDINATE` if a coordinate is not finite or is above 65,536 in size;
+// `SAME_ENDS` if `p0` equals `p1`; `ROOM` if `list` is shorter than the entries.
+// Example: 8, 4, (1.5, 1.5), (3.5, 1.5), [0; 6] gives 4 and leaves [9, 10, 11, 12, 0, 0].
 #[no_mangle]
 pub extern "C" fn bgz_edge2_overlapping_pixels_dda(
     width: usize,

@@ -1,8 +1,9 @@
-// What a read of a hatch list answers, as C sees it: the version and the number of records, or a refusal's number and zeros.
+// What a read of a hatch list answers, as C sees it.
 use hatch_read::Read;
 ghost use mathlib.Core.Path.{_≡_};
 ghost use Rattle.c_hatch.specs.Answer.{ofRead};
 
+// The version of a hatch list, and how many records were read.
 #[repr(C)]
 pub struct ReadAnswer {
     pub status: u32,

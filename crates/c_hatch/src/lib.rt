@@ -1,4 +1,6 @@
-// The hatch list and the report on it.
+// Hatch lists, and the report on one. The bytes of a hatch list are "HSL", a 16-bit version, which is 1, a 16-bit count n of at most
+// 2,000, and n records of eight floats: box (min_x, min_y, max_x, max_y), origin (x, y), direction (x, y). Little-endian;
+// 7 + 32 n bytes in all.
 mod answer;
 
 use crate::answer::ReadAnswer;
@@ -12,6 +14,10 @@ ghost use Rattle.hatch_read.specs.Read.{recordCountOf, decodeInto, itself, read
 ghost use Rattle.report.specs.Report.{reportOf};
 ghost use Rattle.c_hatch.specs.Answer.{ofRead};
 
+// `hatch::read_floats` with each float as its bits, so that a NaN keeps them.
+// Writes the 8 * count patterns to the start of `out` and answers version and count.
+// Refused: as there.
+// Example: "HSL\1\0\0\0", [] gives (1, 0).
 #[no_mangle]
 pub extern "C" fn bgz_hatch_read_patterns(bytes: &[u8], out: &mut [u32]) -> ReadAnswer
     ensures answers { λ r. ⌜ r ≡ ofRead (readOf (decodeInto hsl rows (length (now (out .entry))) (now (bytes .entry)))) ⌝ }
@@ -20,6 +26,11 @@ pub extern "C" fn bgz_hatch_read_patterns(bytes: &[u8], out: &mut [u32]) -> Read
     crate::answer::read(hatch_read::read_patterns(bytes, out))
 }
 
+// Reads the floats of the records of a hatch list. A float may have any bits; every NaN is read as a NaN of any bits.
+// Writes the 8 * count floats to the start of `out` and answers version and count.
+// Refused: `MARK` if the bytes do not begin with "HSL"; `LENGTH` if they are fewer than 7; `VERSION` if the version is not 1;
+// `COUNT` if the count is above 2,000; `LENGTH` if they are not 7 + 32 * count; `ROOM` if `out` is shorter than 8 * count.
+// Example: "HSL\1\0\0\0", [] gives (1, 0).
 #[no_mangle]
 pub extern "C" fn bgz_hatch_read_floats(bytes: &[u8], out: &mut [f32]) -> ReadAnswer
     ensures answers { λ r. ⌜ r ≡ ofRead (readOf (decodeInto hsl rows (length (now (out .entry))) (now (bytes .entry)))) ⌝ }
@@ -28,6 +39,12 @@ pub extern "C" fn bgz_hatch_read_floats(bytes: &[u8], out: &mut [f32]) -> ReadAn
     crate::answer::read(hatch_read::read_floats(bytes, out))
 }
 
+// Reads a hatch list into `floats` as `hatch::read_floats` does, clips each record as a line, and reports as text: "HSL", version
+// and count; then for each record a line with its place from 1 and "miss", or "hit" with tmin and tmax as eight hexadecimal digits of
+// their bits, any zero as 00000000. Fields stand one space apart, and a line ends in a line feed. For a list that is refused the text is
+// "refused" and the number, and `floats` stays as it is.
+// Writes the text to the start of `out`, with no NUL after it, and answers how many bytes it wrote; what has no room is left out.
+// Example: "HSL\1\0\0\0", [], [0; 8] gives 8 and leaves "HSL 1 0\n".
 #[no_mangle]
 pub extern "C" fn bgz_hatch_record_count(floats: &[f32]) -> usize
     ensures { λ r. ⌜ r ≡ recordCountOf (now (floats .entry)) ⌝ }

@@ -1,0 +1,194 @@
+"""What the Rattle sources export: functions, structs and refusals, each with the comment above it.
+
+`read()` gives them in the order in which the header declares them: modules as crates.txt lists their crates, functions as written. A form
+that this module does not read is an error, so nothing that is exported can be left out.
+
+A comment is text, in which code stands in backticks, a refusal by its name, as `ROOM`, and a function as `module::name`. Three kinds of
+paragraphs begin with a word of their own and stand last: `Refused: ` the conditions in the order in which they are tested, `Example: `
+arguments and what they give, `Writes` what is left in lent lists.
+"""
+
+import dataclasses
+import pathlib
+import re
+import sys
+
+ROOT = pathlib.Path(__file__).resolve().parent.parent.parent
+SCALARS = ("bool", "u8", "u32", "i32", "usize", "f32")
+COMMENT = r"((?:^ *//[^\n]*\n)*)"
+
+
+@dataclasses.dataclass(frozen=True)
+class Type:
+    """A scalar or a struct by its name; lent, and then perhaps to be changed, and perhaps a list."""
+
+    name: str
+    lent: bool = False
+    mutable: bool = False
+    list: bool = False
+
+    @staticmethod
+    def of(text):
+        lent = re.fullmatch(r"&(mut )?(?:\[(\w+)\]|(\w+))", text)
+        if lent:
+            return Type(lent[2] or lent[3], True, bool(lent[1]), bool(lent[2]))
+        return Type(re.fullmatch(r"\w+", text)[0])
+
+
+@dataclasses.dataclass(frozen=True)
+class Comment:
+    text: tuple  # paragraphs
+    refused: str = ""
+    example: str = ""
+
+
+@dataclasses.dataclass(frozen=True)
+class Named:
+    """A parameter or a field."""
+
+    name: str
+    type: Type
+    comment: str = ""
+
+
+@dataclasses.dataclass(frozen=True)
+class Struct:
+    name: str
+    comment: Comment
+    fields: tuple
+
+    @property
+    def is_answer(self):
+        return self.fields[0].name == "status"
+
+    @property
+    def answered(self):
+        """The fields of an answer but its status."""
+        return self.fields[1:]
+
+
+@dataclasses.dataclass(frozen=True)
+class Function:
+    symbol: str
+    comment: Comment
+    parameters: tuple
+    result: str
+    enum: str  # what the result stands for, by the contract: a name of `Model.enums`, or nothing
+
+    @property
+    def module(self):
+        return self.symbol.split("_")[1]
+
+    @property
+    def name(self):
+        return self.symbol.split("_", 2)[2]
+
+
+@dataclasses.dataclass(frozen=True)
+class Refusal:
+    name: str
+    number: int
+    text: str
+
+
+@dataclasses.dataclass(frozen=True)
+class Enum:
+    """What an answer can be beside what was asked for: none of it, or a refusal."""
+
+    none: bool
+    refused: bool
+
+
+@dataclasses.dataclass(frozen=True)
+class Model:
+    functions: tuple
+    structs: dict
+    refusals: tuple
+    enums: dict
+    modules: dict  # the comment on each
+
+    def kind(self, function):
+        """What the contract says of a function's answer."""
+        return self.enums[function.enum] if function.enum else Enum(False, False)
+
+    def scalars(self, t, path=""):
+        """The numbers that a value is made of, in order: where each stands in it, and its type."""
+        if t in SCALARS:
+            return [(path, t)]
+        return [s for f in self.structs[t].fields for s in self.scalars(f.type.name, f"{path}.{f.name}")]
+
+
+def comment_of(text):
+    """A comment's paragraphs, from its lines."""
+    paragraphs = []
+    for line in (re.sub(r"^ *// ?", "", line) for line in text.splitlines()):
+        if not paragraphs or re.match(r"Refused: |Example: |Writes ", line):
+            paragraphs.append(line)
+        elif line:
+            paragraphs[-1] += " " + line
+    kinds = {"Refused: ": "", "Example: ": ""}
+    for paragraph in list(paragraphs):
+        for kind in kinds:
+            if paragraph.startswith(kind):
+                kinds[kind] = paragraph.removeprefix(kind)
+                paragraphs.remove(paragraph)
+    return Comment(tuple(paragraphs), *kinds.values())
+
+
+def named(text):
+    """Names and types, from a comma-separated list that may have comments."""
+    found = re.findall(COMMENT + r"^ *(?:pub )?(\w+): ([^,\n]+),?$", text.replace(", ", ",\n").strip("\n"), re.M)
+    return tuple(Named(name, Type.of(t), " ".join(comment_of(comment).text)) for comment, name, t in found)
+
+
+def functions_of(source):
+    pattern = COMMENT + r'#\[no_mangle\]\npub extern "C" fn (\w+)\(([^)]*)\) -> (\w+)\n(.*?)^\{'
+    for comment, symbol, parameters, result, contract in re.findall(pattern, source, re.S | re.M):
+        enum = re.search(r"r ≡ of([A-Z]\w*)", contract)
+        yield Function(symbol, comment_of(comment), named(parameters), result, enum[1] if enum else "")
+
+
+def structs_of(source):
+    for comment, name, fields in re.findall(COMMENT + r"#\[repr\(C\)\]\npub struct (\w+) \{\n(.*?)^\}", source, re.S | re.M):
+        yield Struct(name, comment_of(comment), named(fields))
+
+
+def enums_of(source):
+    for name, variants in re.findall(r"^pub enum (\w+) \{\n(.*?)^\}", source, re.S | re.M):
+        yield name, Enum(bool(re.search(r"^    (None|Miss),$", variants, re.M)), "Refused(u32)" in variants)
+
+
+def refusals_of(source):
+    """A refusal with no comment shares that of the one before."""
+    text = ""
+    for comment, name, number in re.findall(COMMENT + r"pub const (\w+): u32 = (\d+);", source, re.M):
+        text = " ".join(comment_of(comment).text) or text
+        yield Refusal(name, int(number), text)
+
+
+def sources():
+    """The text of each crate that crates.txt lists, its files joined."""
+    for crate in re.findall(r"^(\w+):", (ROOT / "crates.txt").read_text(), re.M):
+        folder = ROOT / "crates" / crate / "src"
+        # The root first: it has the comment on the crate.
+        paths = sorted(folder.glob("**/*.rt"), key=lambda p: (p.parent != folder or p.stem not in ("lib", "main"), p))
+        yield crate, "\n".join(p.read_text() for p in paths)
+
+
+def read():
+    functions, structs, enums, modules = [], [], {}, {}
+    for crate, source in sources():
+        own, declared = list(functions_of(source)), list(structs_of(source))
+        if len(own) != source.count('extern "C" fn') or len(declared) != source.count("#[repr(C)]"):
+            sys.exit(f"boundary: a function or a struct of {crate} has a form that is not read")
+        for function in own:
+            if not function.comment.text or not f"{crate}_".startswith(f"c_{function.module}_"):
+                sys.exit(f"boundary: {function.symbol} has no comment, or stands in {crate}")
+        if own and own[0].module not in modules:
+            modules[own[0].module] = " ".join(comment_of(re.match(r"(?://.*\n)*", source)[0]).text)
+        functions += own
+        structs += declared
+        enums.update(enums_of(source))
+    refusals = tuple(refusals_of((ROOT / "crates/types/src/refusal.rt").read_text()))
+    structs.sort(key=lambda s: s.is_answer)
+    return Model(tuple(functions), {s.name: s for s in structs}, refusals, enums, modules)
