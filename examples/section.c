@@ -9,8 +9,8 @@
 #include <inttypes.h>
 #include <stdio.h>
 
-/* The longest hatch list has 2,000 records. One byte more tells a longer file, which is refused and not cut. */
-enum { RECORDS = 2000, BYTES = 7 + 32 * RECORDS + 1, FLOATS = 8 * RECORDS };
+/* One byte more than the longest hatch list has, which tells a longer file: it is refused and not cut. */
+enum { BYTES = BGZ_HATCH_BYTES_MAX + 1, FLOATS = BGZ_HATCH_FLOATS_MAX };
 
 /* A hatch line, and the box of the face that it fills. */
 struct line {
@@ -92,7 +92,7 @@ int main(int argc, char **argv) {
 
     bgz_read_answer read = bgz_hatch_read_floats(bytes, length, floats, FLOATS);
     if (read.status != BGZ_ANSWERED) {
-        fprintf(stderr, "refused %" PRIu32 "\n", read.status);
+        fprintf(stderr, "refused %" PRIu32 ": %s\n", read.status, bgz_refusal_text(read.status));
         return 1;
     }
     print_section(floats, read.count);

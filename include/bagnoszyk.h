@@ -1,14 +1,14 @@
 /*
- * Bagnoszyk: geometry for patent drawings in f32, proved. The C interface.
+ * Bagnoszyk 0.1.0: geometry for patent drawings in f32, proved. The C interface, in C99 and C++11 and all later versions.
+ * Made from the Rattle sources by tests/generate. Licence: MIT, see NOTICE (installed under share/doc/bagnoszyk).
  *
  * Calls. Every routine takes any bits in every number, NaN and infinities among them, ends, and gives an answer, none, or
  * the number of a refusal. It keeps no state, allocates nothing and calls nothing outside the library, so threads may call
  * at the same time; a list that one call writes must be in use by no other call. It is built for x86-64 Linux.
  *
  * Answers. A struct bgz_..._answer has a status: BGZ_ANSWERED (0), BGZ_NONE (255), or the number of a refusal. Where the
- * status is not 0, every other field is 0. A routine that returns no such struct refuses nothing, but for bgz_hatch_report,
- * which writes the refusal as text. Conditions of a refusal are listed in the order in which they are tested; the first that
- * holds gives the number. A status of 255 is given only by routines whose comment says when there is none.
+ * status is not 0, every other field is 0. Conditions of a refusal are listed in the order in which they are tested; the
+ * first that holds gives the number. Only routines whose comment says so refuse, or give BGZ_NONE.
  *
  * Floats. Each operation is rounded to the nearest float, ties to even, as IEEE 754 has it. The caller must leave the
  * rounding mode as it is at the start of a program, and subnormal numbers on: a program linked with -ffast-math may turn
@@ -16,10 +16,14 @@
  * comparison; of two equal zeros a minimum or maximum gives the first. Minimum and maximum, wherever a comment names them,
  * drop a NaN if the other is a number.
  *
- * Lists. A list is a pointer to its first entry and the number of its entries. The pointer must not be null, even if the
- * length is 0, and must be aligned for its type; that many entries must be readable, and writable unless the pointer is to
- * const. Lists of one call must not overlap. A routine that writes to a list says which entries it writes; the entries
- * beyond them are left as they are. A refused call changes no list, but for the text of bgz_hatch_report.
+ * Axes. x grows with the column and y with the row. A line rises where y grows with x, as in direction (1, 1), and falls
+ * where it shrinks, as in direction (1, -1). On a screen with row 0 on top a line that rises so goes down to the right.
+ *
+ * Lists. A list is a pointer to its first entry and the number of its entries; where that number is 0 the pointer may be
+ * null. A pointer must be aligned for its type; that many entries must be readable, and writable unless the pointer is to
+ * const. A list of bytes is a pointer to void, so that char serves as well as uint8_t. Lists of one call must not overlap.
+ * A routine that writes to a list says which entries it writes; the entries beyond them are left as they are. A refused
+ * call changes no list, but for the text of bgz_hatch_report.
  */
 #ifndef BAGNOSZYK_H
 #define BAGNOSZYK_H
@@ -32,25 +36,77 @@
 extern "C" {
 #endif
 
+#define BAGNOSZYK_VERSION "0.1.0"
+
+/* ---- limits */
+
+#define BGZ_IMAGE_SIDE_MAX 16384         /* The longest side of an image in pixels, and of a sheet in tiles. */
+#define BGZ_STROKE_COORDINATE_MAX 65536  /* The largest coordinate of a stroke's ends, in size. */
+#define BGZ_STROKE_ENTRIES_MAX 131075    /* Room for the entries of any stroke. */
+#define BGZ_TILE_COORDINATE_MAX 1048576  /* The largest coordinate of a box whose tiles are listed, in size. */
+#define BGZ_TILE_SIZE_MAX 4096           /* The longest side of a tile. */
+#define BGZ_HATCH_RECORDS_MAX 2000       /* The most records of a hatch list. */
+#define BGZ_HATCH_FLOATS_MAX 16000       /* Room for the floats of any hatch list. */
+#define BGZ_HATCH_BYTES_MAX 64007        /* The bytes of the longest hatch list. */
+#define BGZ_HATCH_REPORT_MAX 52904       /* The bytes of the longest report. */
+
 /* ---- the status of an answer */
 
 enum bgz_status {
-    BGZ_ANSWERED = 0,    /* no refusal: the answer is in the other fields */
-    BGZ_ROOM = 1,        /* a lent list is shorter than what is to be written */
-    BGZ_SAME_ENDS = 2,   /* both ends of a stroke are equal */
-    BGZ_COORDINATE = 3,  /* a coordinate is not finite, or too large */
-    BGZ_SIZE = 4,        /* a side of an image or a sheet is too large, or a tile size is 0 or too large */
-    BGZ_ORDER = 5,       /* a range is not ordered: low is not at most high */
-    BGZ_RADIUS = 6,      /* a radius is not at least 0 */
-    BGZ_NAN_LENGTH = 7,  /* a length to a turned box is NaN */
-    BGZ_NO_IMAGE = 8,    /* a corner has no image under a transform */
-    BGZ_INDEX = 9,       /* an index is not below the number of boxes */
-    BGZ_MARK = 10,       /* a hatch list does not begin with its mark */
-    BGZ_VERSION = 11,    /* a hatch list has an unknown version */
-    BGZ_COUNT = 12,      /* a hatch list has too many records */
-    BGZ_LENGTH = 13,     /* the bytes of a hatch list are too few or too many */
-    BGZ_NONE = 255       /* no refusal: there is none of what was asked for */
+    BGZ_ANSWERED = 0,            /* an answer: it stands in the other fields */
+    BGZ_REFUSED_ROOM = 1,        /* a lent list is shorter than what is to be written */
+    BGZ_REFUSED_SAME_ENDS = 2,   /* both ends of a stroke are equal */
+    BGZ_REFUSED_COORDINATE = 3,  /* a coordinate is not finite, or too large */
+    BGZ_REFUSED_SIZE = 4,        /* a side of an image or a sheet is too large, or a tile size is 0 or too large */
+    BGZ_REFUSED_ORDER = 5,       /* a range is not ordered: low is not at most high */
+    BGZ_REFUSED_RADIUS = 6,      /* a radius is not at least 0 */
+    BGZ_REFUSED_NAN_LENGTH = 7,  /* a length to the turned box is NaN */
+    BGZ_REFUSED_NO_IMAGE = 8,    /* a corner has no image */
+    BGZ_REFUSED_INDEX = 9,       /* an index is not below the number of boxes */
+    BGZ_REFUSED_MARK = 10,       /* a hatch list: another mark, version, count or length */
+    BGZ_REFUSED_VERSION = 11,    /* a hatch list: another mark, version, count or length */
+    BGZ_REFUSED_COUNT = 12,      /* a hatch list: another mark, version, count or length */
+    BGZ_REFUSED_LENGTH = 13,     /* a hatch list: another mark, version, count or length */
+    BGZ_NONE = 255               /* no refusal, and none of what was asked for */
 };
+
+/* What a status says, in one line. */
+static inline const char *bgz_refusal_text(uint32_t status) {
+    switch (status) {
+    case BGZ_ANSWERED:
+        return "an answer: it stands in the other fields";
+    case BGZ_REFUSED_ROOM:
+        return "a lent list is shorter than what is to be written";
+    case BGZ_REFUSED_SAME_ENDS:
+        return "both ends of a stroke are equal";
+    case BGZ_REFUSED_COORDINATE:
+        return "a coordinate is not finite, or too large";
+    case BGZ_REFUSED_SIZE:
+        return "a side of an image or a sheet is too large, or a tile size is 0 or too large";
+    case BGZ_REFUSED_ORDER:
+        return "a range is not ordered: low is not at most high";
+    case BGZ_REFUSED_RADIUS:
+        return "a radius is not at least 0";
+    case BGZ_REFUSED_NAN_LENGTH:
+        return "a length to the turned box is NaN";
+    case BGZ_REFUSED_NO_IMAGE:
+        return "a corner has no image";
+    case BGZ_REFUSED_INDEX:
+        return "an index is not below the number of boxes";
+    case BGZ_REFUSED_MARK:
+        return "a hatch list: another mark, version, count or length";
+    case BGZ_REFUSED_VERSION:
+        return "a hatch list: another mark, version, count or length";
+    case BGZ_REFUSED_COUNT:
+        return "a hatch list: another mark, version, count or length";
+    case BGZ_REFUSED_LENGTH:
+        return "a hatch list: another mark, version, count or length";
+    case BGZ_NONE:
+        return "no refusal, and none of what was asked for";
+    default:
+        return "not a status of this library";
+    }
+}
 
 /* ---- shapes */
 
@@ -66,7 +122,7 @@ typedef struct bgz_range {
     float high;
 } bgz_range;
 
-/* An upright box, by its low and its high corner. */
+/* An upright box: an axis-aligned bounding box by its low and its high corner. */
 typedef struct bgz_aabb2 {
     float min_x;
     float min_y;
@@ -74,7 +130,7 @@ typedef struct bgz_aabb2 {
     float max_y;
 } bgz_aabb2;
 
-/* A turned box: its centre c and two half edges, u and v. */
+/* A turned box: an oriented bounding box by its centre and two half edges, u and v. */
 typedef struct bgz_obb2 {
     float cx;
     float cy;
@@ -97,6 +153,12 @@ typedef struct bgz_mat3 {
     float m22;
 } bgz_mat3;
 
+/* A point of an edge, and its ratio along the edge. */
+typedef struct bgz_on_edge {
+    float ratio;
+    bgz_vec2 point;
+} bgz_on_edge;
+
 /* Four corners, each joined to the next by an edge, and the last to the first. */
 typedef struct bgz_corners {
     bgz_vec2 p0;
@@ -105,24 +167,21 @@ typedef struct bgz_corners {
     bgz_vec2 p3;
 } bgz_corners;
 
-/* A point of an edge, and its ratio along the edge: 0 at the first end, 1 at the second. */
-typedef struct bgz_on_edge {
-    float ratio;
-    bgz_vec2 point;
-} bgz_on_edge;
-
 /* ---- answers */
 
+/* A number. */
 typedef struct bgz_float_answer {
     uint32_t status;
     float value;
 } bgz_float_answer;
 
+/* A point. */
 typedef struct bgz_point_answer {
     uint32_t status;
     bgz_vec2 value;
 } bgz_point_answer;
 
+/* An upright box. */
 typedef struct bgz_box_answer {
     uint32_t status;
     bgz_aabb2 value;
@@ -131,17 +190,17 @@ typedef struct bgz_box_answer {
 /* The stretch of a line or a ray in a box, by the parameters t of its two ends: the points origin + t * direction. */
 typedef struct bgz_interval_answer {
     uint32_t status;
-    float tmin;
-    float tmax;
+    float tmin; /* Where it begins. */
+    float tmax; /* Where it ends. */
 } bgz_interval_answer;
 
 /* Columns from x0 up to and without x1, rows from y0 up to and without y1. */
 typedef struct bgz_pixels_answer {
     uint32_t status;
-    size_t x0;
-    size_t y0;
-    size_t x1;
-    size_t y1;
+    size_t x0; /* The first column. */
+    size_t y0; /* The first row. */
+    size_t x1; /* The column after the last. */
+    size_t y1; /* The row after the last. */
 } bgz_pixels_answer;
 
 /* How many entries were written. */
@@ -153,305 +212,461 @@ typedef struct bgz_count_answer {
 /* The version of a hatch list, and how many records were read. */
 typedef struct bgz_read_answer {
     uint32_t status;
-    size_t version;
-    size_t count;
+    size_t version; /* The version. */
+    size_t count; /* The number of records. */
 } bgz_read_answer;
 
-/* ---- floats */
+/* ---- f32: Float helpers. */
 
-/* The absolute value: the sign is dropped, that of -0 too. */
+/*
+ * The absolute value: the sign is dropped, that of -0 too.
+ * Example: -1.5 gives 1.5.
+ */
 float bgz_f32_abs(float x);
 
-/* The smaller of two numbers; if one is a NaN, the other. */
+/*
+ * The smaller of two numbers; if one is a NaN, the other.
+ * Example: 2, -1 gives -1.
+ */
 float bgz_f32_min(float a, float b);
 
-/* The larger of two numbers; if one is a NaN, the other. */
+/*
+ * The larger of two numbers; if one is a NaN, the other.
+ * Example: 2, -1 gives 2.
+ */
 float bgz_f32_max(float a, float b);
 
-/* low if x is below low, else high if x is above high, else x, a NaN too. Any low and high are taken. */
+/*
+ * low if x is below low, else high if x is above high, else x, a NaN too. Any low and high are taken.
+ * Example: 5, 0, 1 gives 1.
+ */
 float bgz_f32_clamp(float x, float low, float high);
 
-/* The greatest whole number that is not above x. The sign is kept, that of a zero too; a NaN and an infinity give themselves. */
+/*
+ * The greatest whole number that is not above x. The sign is kept, that of a zero too; a NaN and an infinity give
+ * themselves.
+ * Example: -1.5 gives -2.
+ */
 float bgz_f32_floor(float x);
 
-/* The least whole number that is not below x. The sign is kept, so -0.5 gives -0; a NaN and an infinity give themselves. */
+/*
+ * The least whole number that is not below x. The sign is kept, so -0.5 gives -0; a NaN and an infinity give
+ * themselves.
+ * Example: 1.25 gives 2.
+ */
 float bgz_f32_ceil(float x);
 
-/* x cut toward zero to an integer and held at the type's ends; 0 for a NaN. */
+/*
+ * x cut toward zero to an integer and held from -2^31 to 2^31 - 1; 0 for a NaN.
+ * Example: -1.75 gives -1.
+ */
 int32_t bgz_f32_to_i32(float x);
 
-/* The same for uint32_t: every x below 1 gives 0. */
+/*
+ * x cut toward zero to an integer and held from 0 to 2^32 - 1; 0 for a NaN.
+ * Example: 1.75 gives 1.
+ */
 uint32_t bgz_f32_to_u32(float x);
 
-/* The same for size_t: every x below 1 gives 0. */
+/*
+ * x cut toward zero to an integer and held from 0 to 2^64 - 1; 0 for a NaN.
+ * Example: -1.75 gives 0.
+ */
 size_t bgz_f32_to_usize(float x);
 
-/* The float nearest to the square root. A zero gives itself, +infinity gives itself, any other x below 0 gives a NaN. */
+/*
+ * The float nearest to the square root. A zero and +infinity give themselves; any other x below 0 gives a NaN.
+ * Example: 2.25 gives 1.5.
+ */
 float bgz_f32_sqrt(float x);
 
-/* ---- ranges */
+/* ---- range: Ranges of numbers. */
 
 /*
  * The gap between two ranges. None if they touch or overlap.
- * Refused: BGZ_ORDER if a or b is not low <= high, as with a NaN.
+ * Refused: BGZ_REFUSED_ORDER if a or b is not low <= high, as with a NaN.
+ * Example: (0, 1), (3, 5) gives 2.
  */
 bgz_float_answer bgz_range_distance_to_range(bgz_range a, bgz_range b);
 
 /*
- * The length that two ranges share. None if they touch or lie apart; a range of one point strictly inside the other gives 0.
- * Refused: BGZ_ORDER if a or b is not low <= high, as with a NaN.
+ * The length that two ranges share. None if they touch or lie apart; a range of one point strictly inside the other
+ * gives 0.
+ * Refused: BGZ_REFUSED_ORDER if a or b is not low <= high, as with a NaN.
+ * Example: (0, 4), (3, 5) gives 1.
  */
 bgz_float_answer bgz_range_intersection_length(bgz_range a, bgz_range b);
 
-/* ---- points and vectors */
+/* ---- vec2: Points and vectors. */
 
-/* a - b, by component. */
+/*
+ * a - b, by component.
+ * Example: (3, 4), (1, 1) gives (2, 3).
+ */
 bgz_vec2 bgz_vec2_sub(bgz_vec2 a, bgz_vec2 b);
 
-/* a.x * b.x + a.y * b.y. */
+/*
+ * a.x * b.x + a.y * b.y.
+ * Example: (1, 2), (3, 4) gives 11.
+ */
 float bgz_vec2_dot(bgz_vec2 a, bgz_vec2 b);
 
-/* p.x * p.x + p.y * p.y. */
+/*
+ * p.x * p.x + p.y * p.y.
+ * Example: (3, 4) gives 25.
+ */
 float bgz_vec2_squared_length(bgz_vec2 p);
 
-/* The square root of the squared length, which may overflow to infinity. */
+/*
+ * The square root of the squared length, which may overflow to infinity.
+ * Example: (3, 4) gives 5.
+ */
 float bgz_vec2_length(bgz_vec2 p);
 
-/* ---- matrices */
+/* ---- mat3: Transforms. */
 
-/* The image of p: (m (p.x, p.y, 1)) divided by its third component. None if that component, as computed, is a zero. */
+/*
+ * The image of p: m times (p.x, p.y, 1), divided by its third component. None if that component, as computed, is a
+ * zero.
+ * Example: (1, 0, 0, 0, 1, 0, 2, 3, 1), (4, 5) gives (6, 8).
+ */
 bgz_point_answer bgz_mat3_transform_homogeneous(bgz_mat3 m, bgz_vec2 p);
 
-/* ---- edges */
+/* ---- edge2: Edges, and pen strokes along them. */
 
-/* The length of the edge from s to e. */
+/*
+ * The length of the edge from s to e.
+ * Example: (0, 0), (3, 4) gives 5.
+ */
 float bgz_edge2_length(bgz_vec2 s, bgz_vec2 e);
 
-/* The squared length of the edge from s to e. */
+/*
+ * The squared length of the edge from s to e.
+ * Example: (0, 0), (3, 4) gives 25.
+ */
 float bgz_edge2_squared_length(bgz_vec2 s, bgz_vec2 e);
 
-/* The direction from s to e: e - s times 1 / length. An edge whose computed length is 0 gives infinities or NaN. */
+/*
+ * The direction from s to e: e - s times 1 / length. An edge whose computed length is 0 gives infinities or NaN.
+ * Example: (0, 0), (0, 2) gives (0, 1).
+ */
 bgz_vec2 bgz_edge2_unit_edge_vector(bgz_vec2 s, bgz_vec2 e);
 
-/* (1 - ratio) * p0 + ratio * p1: p0 at 0, p1 at 1. Any ratio is taken. */
+/*
+ * (1 - ratio) * p0 + ratio * p1: p0 at 0, p1 at 1. Any ratio is taken.
+ * Example: (0, 0), (4, 8), 0.25 gives (1, 2).
+ */
 bgz_vec2 bgz_edge2_position_from_ratio(bgz_vec2 p0, bgz_vec2 p1, float ratio);
 
 /*
- * (pe - ps) . q divided by the length of pe - ps. This is del-geo-core's formula: q is measured from the origin and not from
- * ps, and the result is a length and not a ratio.
+ * The dot product of pe - ps and q, divided by the length of pe - ps. This is del-geo-core's formula: q is measured
+ * from the origin and not from ps, and the result is a length and not a ratio.
+ * Example: (0, 0), (4, 0), (3, 1) gives 3.
  */
 float bgz_edge2_ratio_from_position(bgz_vec2 ps, bgz_vec2 pe, bgz_vec2 q);
 
 /*
- * Whether the upright boxes of two edges meet, widened by 2^-23 times the sum of their sides. Where they do not, the edges
- * cannot cross.
+ * Whether the upright boxes of two edges meet, widened by 2^-23 times the sum of their sides. Where they do not, the
+ * edges cannot cross.
+ * Example: (0, 0), (1, 1), (2, 2), (3, 3) gives false.
  */
 bool bgz_edge2_culling_intersection(bgz_vec2 s0, bgz_vec2 e0, bgz_vec2 s1, bgz_vec2 e1);
 
 /*
- * The point of the edge from s to e that is nearest to (0, 0), with its ratio. An edge whose computed squared length is 0
- * gives its midpoint, with ratio 0.5.
+ * The point of the edge from s to e that is nearest to (0, 0), with its ratio. An edge whose computed squared length is
+ * 0 gives its midpoint, with ratio 0.5.
+ * Example: (-1, 1), (1, 1) gives (0.5, (0, 1)).
  */
 bgz_on_edge bgz_edge2_nearest_origin(bgz_vec2 s, bgz_vec2 e);
 
-/* The point of the edge from s to e that is nearest to p, with its ratio; an edge of no length as above. */
+/*
+ * The point of the edge from s to e that is nearest to p, with its ratio. An edge whose computed squared length is 0
+ * gives its midpoint, with ratio 0.5.
+ * Example: (0, 0), (4, 0), (1, 5) gives (0.25, (1, 0)).
+ */
 bgz_on_edge bgz_edge2_nearest_to_point(bgz_vec2 s, bgz_vec2 e, bgz_vec2 p);
 
 /*
- * The length of the edge from s to e in the box b, as del-geo-core takes it: the diagonal of what the box's range and the
- * range between the ends share in x and in y. 0 if they share nothing in x, or nothing in y. It is the exact length only
- * where the edge runs from corner to corner of what is shared.
- * Refused: BGZ_ORDER if in x the box is not low <= high, as with a NaN, or both ends are NaN; then, unless x shares
- * nothing, the same in y.
+ * The length of the edge from s to e in the box b, as del-geo-core takes it: the diagonal of what the box's range and
+ * the range between the ends share in x and in y. 0 if they share nothing in x, or nothing in y. It is the exact length
+ * only where the edge runs from corner to corner of what is shared.
+ * Refused: BGZ_REFUSED_ORDER if in x the box is not low <= high, as with a NaN, or both ends are NaN; then, unless x
+ * shares nothing, the same in y.
+ * Example: (0, 0), (3, 4), (0, 0, 3, 4) gives 5.
  */
 bgz_float_answer bgz_edge2_intersection_length_against_aabb2(bgz_vec2 s, bgz_vec2 e, bgz_aabb2 b);
 
-/* The ink that the stroke from s to e leaves in the box b: the length above, with its refusal. */
+/*
+ * The ink that the stroke from s to e leaves in the box b: bgz_edge2_intersection_length_against_aabb2, with its
+ * refusal.
+ * Refused: BGZ_REFUSED_ORDER if in x the box is not low <= high, as with a NaN, or both ends are NaN; then, unless x
+ * shares nothing, the same in y.
+ * Example: (0, 0), (6, 8), (0, 0, 3, 4) gives 5.
+ */
 bgz_float_answer bgz_edge2_ink(bgz_vec2 s, bgz_vec2 e, bgz_aabb2 b);
 
 /*
- * The pixels under the stroke from p0 to p1, in an image of width by height pixels; a side may be 0. A walk starts at p0.
- * Each step adds the difference of the ends divided by the larger absolute difference, signs kept. The walk goes on while
- * x and y lie within the ends' ranges, widened by 2^-23. Each position in the image enters row * width + column. The position
- * after them enters the same as a closing entry, a negative coordinate as 0: it may name a pixel of the next row, or none.
+ * The pixels under the stroke from p0 to p1, in an image of width by height pixels; a side may be 0. A walk starts at
+ * p0. Each step adds the difference of the ends divided by the larger absolute difference, signs kept. The walk goes on
+ * while x and y lie within the ends' ranges, widened by 2^-23. Each position in the image enters row * width + column.
+ * The position after them enters the same as a closing entry, a negative coordinate as 0: it may name a pixel of the
+ * next row, or none.
  * Writes the entries to the start of list and answers how many, which is never above 131,075.
- * Refused: BGZ_SIZE if width or height is above 16,384; BGZ_COORDINATE if a coordinate is not finite or is above 65,536 in
- * size; BGZ_SAME_ENDS if p0 equals p1; BGZ_ROOM if list is shorter than the entries.
+ * Refused: BGZ_REFUSED_SIZE if width or height is above 16,384; BGZ_REFUSED_COORDINATE if a coordinate is not finite or
+ * is above 65,536 in size; BGZ_REFUSED_SAME_ENDS if p0 equals p1; BGZ_REFUSED_ROOM if list is shorter than the entries.
+ * Example: 8, 4, (1.5, 1.5), (3.5, 1.5), [0; 6] gives 4 and leaves [9, 10, 11, 12, 0, 0].
  */
-bgz_count_answer bgz_edge2_overlapping_pixels_dda(size_t width, size_t height, bgz_vec2 p0, bgz_vec2 p1,
-                                                  uint32_t *list, size_t list_length);
+bgz_count_answer bgz_edge2_overlapping_pixels_dda(size_t width, size_t height, bgz_vec2 p0, bgz_vec2 p1, uint32_t *list,
+                                                  size_t list_length);
 
-/* ---- upright boxes */
+/* ---- aabb: Upright boxes: clipping lines, and what is inside. */
 
 /*
- * The stretch of the line origin + t * direction in the box b: tmin <= tmax, both finite. None if the line misses b; touching
- * an edge or a corner is a hit. Where a component of direction is a zero, that dimension only tests that origin is not
- * outside. t keeps its sign: a line may be in the box only at negative t.
+ * The stretch of the line origin + t * direction in the box b: tmin <= tmax, both finite. None if the line misses b;
+ * touching an edge or a corner is a hit. Where a component of direction is a zero, that dimension only tests that
+ * origin is not outside. t keeps its sign: a line may be in the box only at negative t.
+ * Example: (0, 0, 4, 2), (6, -1), (-1, 1) gives (2, 3).
  */
 bgz_interval_answer bgz_aabb_intersections_against_line(bgz_aabb2 b, bgz_vec2 origin, bgz_vec2 direction);
 
-/* The line's answer if tmax >= 0, and else none. tmin is not raised to 0: it may be negative. */
+/*
+ * The line's answer if tmax >= 0, and else none. tmin is not raised to 0: it may be negative.
+ * Example: (0, 0, 4, 2), (2, 1), (1, 0) gives (-2, 2).
+ */
 bgz_interval_answer bgz_aabb_intersections_against_ray(bgz_aabb2 b, bgz_vec2 origin, bgz_vec2 direction);
 
-/* Whether p is in b, edges included. A NaN is outside. */
+/*
+ * Whether p is in b, edges included. A NaN is outside.
+ * Example: (0, 0, 4, 2), (4, 1) gives true.
+ */
 bool bgz_aabb_is_include_point(bgz_aabb2 b, bgz_vec2 p);
 
-/* (low + high) * 0.5, by component. */
+/*
+ * (low + high) * 0.5, by component.
+ * Example: (0, 0, 4, 2) gives (2, 1).
+ */
 bgz_vec2 bgz_aabb_center(bgz_aabb2 b);
+
+/* ---- aabb2: Upright boxes: making, changing and measuring them, their pixels and tiles, and flat lists of them. */
 
 /*
  * The box from p - radius to p + radius.
- * Refused: BGZ_RADIUS if radius is not at least 0, as with a NaN.
+ * Refused: BGZ_REFUSED_RADIUS if radius is not at least 0, as with a NaN.
+ * Example: (3, 4), 1 gives (2, 3, 4, 5).
  */
 bgz_box_answer bgz_aabb2_from_point(bgz_vec2 p, float radius);
 
-/* The box around the two boxes from p - radius to p + radius and from q - radius to q + radius. Any radius is taken. */
+/*
+ * The box around the two boxes from p - radius to p + radius and from q - radius to q + radius. Any radius is taken.
+ * Example: (0, 0), (3, 1), 1 gives (-1, -1, 4, 2).
+ */
 bgz_aabb2 bgz_aabb2_from_two_points(bgz_vec2 p, bgz_vec2 q, float radius);
 
-/* The box around two boxes: minimum of the low corners, maximum of the high ones. */
+/*
+ * The box around two boxes: minimum of the low corners, maximum of the high ones.
+ * Example: (0, 0, 1, 1), (2, -1, 3, 0) gives (0, -1, 3, 1).
+ */
 bgz_aabb2 bgz_aabb2_from_two_aabbs(bgz_aabb2 a, bgz_aabb2 b);
 
 /*
  * b widened to hold the box from p - radius to p + radius.
- * Refused: BGZ_RADIUS if radius is not at least 0, as with a NaN.
+ * Refused: BGZ_REFUSED_RADIUS if radius is not at least 0, as with a NaN.
+ * Example: (0, 0, 1, 1), (3, 0), 0 gives (0, 0, 3, 1).
  */
 bgz_box_answer bgz_aabb2_add_point(bgz_aabb2 b, bgz_vec2 p, float radius);
 
-/* The same answer and refusal; inside, the box is widened where it stands. */
+/*
+ * bgz_aabb2_add_point, whose box is lent inside and widened where it stands.
+ * Refused: BGZ_REFUSED_RADIUS if radius is not at least 0, as with a NaN.
+ * Example: (0, 0, 1, 1), (3, 0), 0 gives (0, 0, 3, 1).
+ */
 bgz_box_answer bgz_aabb2_add_point_lent(bgz_aabb2 b, bgz_vec2 p, float radius);
 
 /*
- * The pixels of an image of width by height whose centres lie in b, low edge in and high edge out. x0 and y0 are not held to
- * the image, so x0 may be above x1, and y0 above y1: then there are none. A NaN in the low corner gives 0, and in the high
- * corner the whole side. A side may be 0.
- * Refused: BGZ_SIZE if width or height is above 16,384.
+ * The pixels of an image of width by height whose centres lie in b, low edge in and high edge out. x0 and y0 are not
+ * held to the image, so x0 may be above x1, and y0 above y1: then there are none. A NaN in the low corner gives 0, and
+ * in the high corner the whole side. A side may be 0.
+ * Refused: BGZ_REFUSED_SIZE if width or height is above 16,384.
+ * Example: (0.25, 0.25, 2.5, 1.75), 8, 8 gives (0, 0, 2, 2).
  */
 bgz_pixels_answer bgz_aabb2_rasterize(bgz_aabb2 b, size_t width, size_t height);
 
-/* The same as bgz_aabb_center. */
+/*
+ * The same as bgz_aabb_center.
+ * Example: (0, 0, 4, 2) gives (2, 1).
+ */
 bgz_vec2 bgz_aabb2_center(bgz_aabb2 b);
 
-/* The longer of the two sides, high - low. */
+/*
+ * The longer of the two sides, high - low.
+ * Example: (0, 0, 4, 2) gives 4.
+ */
 float bgz_aabb2_max_edge_size(bgz_aabb2 b);
 
 /*
- * The box around the images of the four corners of b under m. A coordinate that is a NaN is left out; where all four are,
- * the box goes from +infinity to -infinity.
- * Refused: BGZ_NO_IMAGE if a corner has none (bgz_mat3_transform_homogeneous).
+ * The box around the images of the four corners of b under m. A coordinate that is a NaN is left out; where all four
+ * are, the box goes from +infinity to -infinity.
+ * Refused: BGZ_REFUSED_NO_IMAGE if a corner has none: see bgz_mat3_transform_homogeneous.
+ * Example: (0, 0, 1, 1), (2, 0, 0, 0, 2, 0, 1, 0, 1) gives (1, 0, 3, 2).
  */
 bgz_box_answer bgz_aabb2_transform_homogeneous(bgz_aabb2 b, bgz_mat3 m);
 
 /*
  * The transform that takes b into the unit square, both axes scaled by 1 / (the longer side), the centre to (0.5, 0.5).
  * A box whose longer side is 0 gives infinities or NaN.
+ * Example: (0, 0, 4, 2) gives (0.25, 0, 0, 0, 0.25, 0, 0, 0.25, 1).
  */
 bgz_mat3 bgz_aabb2_to_transformation_world2unit_ortho_preserve_asp(bgz_aabb2 b);
 
-/* The same as bgz_aabb_is_include_point. */
+/*
+ * The same as bgz_aabb_is_include_point.
+ * Example: (0, 0, 4, 2), (5, 1) gives false.
+ */
 bool bgz_aabb2_is_include_point2(bgz_aabb2 b, bgz_vec2 p);
 
-/* Whether the square from p - radius to p + radius overlaps b. Touching is not overlapping. */
+/*
+ * Whether the square from p - radius to p + radius overlaps b. Touching is not overlapping.
+ * Example: (0, 0, 4, 2), (5, 1), 2 gives true.
+ */
 bool bgz_aabb2_is_intersect_square(bgz_aabb2 b, bgz_vec2 p, float radius);
 
 /*
  * The point of b that is nearest to p; p itself if it is in b. A NaN in p is kept.
- * Refused: BGZ_ORDER if b is not low <= high in x, then in y, as with a NaN.
+ * Refused: BGZ_REFUSED_ORDER if b is not low <= high in x, then in y, as with a NaN.
+ * Example: (0, 0, 4, 2), (6, 1) gives (4, 1).
  */
 bgz_point_answer bgz_aabb2_nearest_point2(bgz_aabb2 b, bgz_vec2 p);
 
-/* The signed distance from p to the edge of b: positive outside, negative inside. */
+/*
+ * The signed distance from p to the edge of b: positive outside, negative inside, but for rounding.
+ * Example: (0, 0, 4, 2), (7, 6) gives 5.
+ */
 float bgz_aabb2_sdf(bgz_aabb2 b, bgz_vec2 p);
 
-/* b with its sides s times as long, about its centre. A negative s exchanges the corners. */
+/*
+ * b with its sides s times as long, about its centre. A negative s exchanges the corners.
+ * Example: (0, 0, 4, 2), 2 gives (-2, -1, 6, 3).
+ */
 bgz_aabb2 bgz_aabb2_scale(bgz_aabb2 b, float s);
 
-/* b moved by t. */
+/*
+ * b moved by t.
+ * Example: (0, 0, 4, 2), (1, 1) gives (1, 1, 5, 3).
+ */
 bgz_aabb2 bgz_aabb2_translate(bgz_aabb2 b, bgz_vec2 t);
 
 /*
- * The tiles that b overlaps, on a sheet of shape_width by shape_height square tiles of side size. Columns from
- * floor(min_x / size) up to and with floor(max_x / size), rows likewise, each quotient rounded; those off the sheet are
- * skipped. A tile's number is row * shape_width + column. A box reversed in x has a column only if both ends lie in it, and
- * likewise a row in y. A side of the shape may be 0.
- * Writes the numbers, rising, to the start of out and answers how many; 0 is an answer too.
- * Refused: BGZ_SIZE if size is 0 or above 4,096, or shape_width or shape_height is above 16,384; BGZ_COORDINATE if a
- * coordinate of b is not finite or is above 1,048,576 in size; BGZ_ROOM if out is shorter than the tiles.
+ * How many whole boxes a flat list has: its length / 4, rounded down. Each box is min_x, min_y, max_x, max_y.
+ * Example: [0, 0, 1, 1, 2] gives 1.
  */
-bgz_count_answer bgz_aabb2_overlapping_tiles(bgz_aabb2 b, size_t size, size_t shape_width, size_t shape_height,
-                                             uint32_t *out, size_t out_length);
-
-/* ---- upright boxes in a flat list of floats: min_x, min_y, max_x, max_y of each in turn */
-
-/* How many whole boxes the list has: its length / 4. */
 size_t bgz_aabb2_count(const float *all, size_t all_length);
 
 /*
- * The box at an index, from 0.
- * Refused: BGZ_INDEX if index is not below the number of whole boxes.
+ * The box at an index of a flat list, from 0.
+ * Refused: BGZ_REFUSED_INDEX if index is not below bgz_aabb2_count.
+ * Example: [0, 0, 1, 1, 2, 2, 3, 3], 1 gives (2, 2, 3, 3).
  */
 bgz_box_answer bgz_aabb2_from_aabbs(const float *all, size_t all_length, size_t index);
 
 /*
- * The first box.
- * Refused: BGZ_INDEX if the list has fewer than 4 floats.
+ * The first box of a flat list.
+ * Refused: BGZ_REFUSED_INDEX if the list has fewer than 4 floats.
+ * Example: [0, 0, 1, 1] gives (0, 0, 1, 1).
  */
 bgz_box_answer bgz_aabb2_from_slice(const float *s, size_t s_length);
 
-/* ---- turned boxes */
+/*
+ * The tiles that b overlaps, on a sheet of shape_width by shape_height square tiles of side size: columns from
+ * floor(min_x / size) up to and with floor(max_x / size), rows likewise, each quotient rounded; those off the sheet are
+ * skipped. A tile's number is row * shape_width + column. A box reversed in x has a column only if both ends lie in it,
+ * and likewise a row in y. A side of the shape may be 0.
+ * Writes the numbers, rising, to the start of out and answers how many; 0 is an answer too.
+ * Refused: BGZ_REFUSED_SIZE if size is 0 or above 4,096, or shape_width or shape_height is above 16,384;
+ * BGZ_REFUSED_COORDINATE if a coordinate of b is not finite or is above 1,048,576 in size; BGZ_REFUSED_ROOM if out is
+ * shorter than the tiles.
+ * Example: (5, 5, 25, 12), 10, 4, 4, [0; 8] gives 6 and leaves [0, 1, 2, 4, 5, 6, 0, 0].
+ */
+bgz_count_answer bgz_aabb2_overlapping_tiles(bgz_aabb2 b, size_t size, size_t shape_width, size_t shape_height, uint32_t
+                                             *out, size_t out_length);
 
-/* c + u + v, c - u + v, c - u - v, c + u - v. */
+/* ---- obb2: Turned boxes. */
+
+/*
+ * c + u + v, c - u + v, c - u - v, c + u - v.
+ * Example: (1, 1, 2, 0, 0, 1) gives ((3, 2), (-1, 2), (-1, 0), (3, 0)).
+ */
 bgz_corners bgz_obb2_corner_points(bgz_obb2 o);
 
-/* Whether p is in o, edges included, by its dot products with u and v. A product that is a NaN counts as inside. */
+/*
+ * Whether p is in o, edges included, by its dot products with u and v. A product that is a NaN counts as inside, so a
+ * half edge of length 0 does not bound its direction.
+ * Example: (0, 0, 2, 0, 0, 1), (1, 1) gives true.
+ */
 bool bgz_obb2_is_include_point2(bgz_obb2 o, bgz_vec2 p);
 
 /*
- * p itself if bgz_obb2_is_include_point2 says so; else the nearest of the four edges' nearest points, the first of equals.
- * Refused: BGZ_NAN_LENGTH if p is not included and its distance to one of the four is a NaN.
+ * p itself if bgz_obb2_is_include_point2 says so; else the nearest of the four edges' nearest points, the first of
+ * equals.
+ * Refused: BGZ_REFUSED_NAN_LENGTH if p is not included and its distance to one of the four is a NaN.
+ * Example: (0, 0, 2, 0, 0, 1), (5, 0) gives (2, 0).
  */
 bgz_point_answer bgz_obb2_nearest_point2(bgz_obb2 o, bgz_vec2 p);
 
 /*
- * Whether a turned and an upright box meet: no exactly if on some axis (x, y, and those across u and v) the computed
- * projections of the corners of one lie strictly below those of the other. Ranges whose computed ends are equal overlap.
+ * Whether a turned and an upright box meet: no if on some axis (x, y, and those across u and v) the computed
+ * projections of the corners of one lie strictly below those of the other. Projections whose computed ends are equal
+ * overlap; rounding parts some boxes that touch.
+ * Example: (0, 0, 1, 1, -1, 1), (1, 1, 3, 3) gives true.
  */
 bool bgz_obb2_is_intersect_aabb2(bgz_obb2 o, bgz_aabb2 b);
 
-/* Whether two turned boxes meet, on the axes across the half edges of a and of b. The order of a and b does not matter. */
+/*
+ * Whether two turned boxes meet, as above, on the axes across the half edges of a and of b. The order of a and b does
+ * not matter.
+ * Example: (0, 0, 1, 0, 0, 1), (3, 0, 1, 0, 0, 1) gives false.
+ */
 bool bgz_obb2_is_intersect_obb2(bgz_obb2 a, bgz_obb2 b);
 
 /*
- * ---- hatch lists
- *
- * The bytes of a hatch list are `HSL`, a 16-bit version, which is 1, a 16-bit count n of at most 2,000, and n records of
- * eight floats: box (min_x, min_y, max_x, max_y), point (x, y), direction (x, y). Little-endian; 7 + 32 n bytes in all.
- * 16,000 entries are room for every file.
+ * ---- hatch: Hatch lists, and the report on one. The bytes of a hatch list are "HSL", a 16-bit version, which is 1, a
+ * 16-bit count n of at most 2,000, and n records of eight floats: box (min_x, min_y, max_x, max_y), origin (x, y),
+ * direction (x, y). Little-endian; 7 + 32 n bytes in all.
  */
 
 /*
- * Reads the floats of the records. A float may have any bits; every NaN is read as a NaN of any bits.
- * Writes the 8 * count floats to the start of out and answers version and count.
- * Refused: BGZ_MARK if the bytes do not begin with `HSL`; BGZ_LENGTH if they are fewer than 7; BGZ_VERSION if the version is
- * not 1; BGZ_COUNT if the count is above 2,000; BGZ_LENGTH if they are not 7 + 32 * count; BGZ_ROOM if out is shorter than
- * 8 * count.
+ * bgz_hatch_read_floats with each float as its bits, so that a NaN keeps them.
+ * Writes the 8 * count patterns to the start of out and answers version and count.
+ * Refused: as there.
+ * Example: "HSL\1\0\0\0", [] gives (1, 0).
  */
-bgz_read_answer bgz_hatch_read_floats(const uint8_t *bytes, size_t bytes_length, float *out, size_t out_length);
+bgz_read_answer bgz_hatch_read_patterns(const void *bytes, size_t bytes_length, uint32_t *out, size_t out_length);
 
-/* The same with each float as its bits, so that a NaN keeps them. The same answer and refusals. */
-bgz_read_answer bgz_hatch_read_patterns(const uint8_t *bytes, size_t bytes_length, uint32_t *out, size_t out_length);
+/*
+ * Reads the floats of the records of a hatch list. A float may have any bits; every NaN is read as a NaN of any bits.
+ * Writes the 8 * count floats to the start of out and answers version and count.
+ * Refused: BGZ_REFUSED_MARK if the bytes do not begin with "HSL"; BGZ_REFUSED_LENGTH if they are fewer than 7;
+ * BGZ_REFUSED_VERSION if the version is not 1; BGZ_REFUSED_COUNT if the count is above 2,000; BGZ_REFUSED_LENGTH if
+ * they are not 7 + 32 * count; BGZ_REFUSED_ROOM if out is shorter than 8 * count.
+ * Example: "HSL\1\0\0\0", [] gives (1, 0).
+ */
+bgz_read_answer bgz_hatch_read_floats(const void *bytes, size_t bytes_length, float *out, size_t out_length);
 
-/* How many records a list of floats has, eight floats each; an incomplete last one does not count. */
+/*
+ * How many records a list of floats has, eight floats each; an incomplete last one does not count.
+ * Example: [0, 0, 4, 2, 6, -1, -1, 1, 0] gives 1.
+ */
 size_t bgz_hatch_record_count(const float *floats, size_t floats_length);
 
 /*
- * Clips each record of a hatch list as a line, and writes a report to the start of out: `HSL`, version and count; then for
- * each record a line with its place from 1 and `miss`, or `hit` with tmin and tmax as eight hexadecimal digits of their bits,
- * any zero as 00000000. Fields stand one space apart, and a line ends in \n. For a list that is refused it writes `refused`
- * and the number. No NUL is written.
- * Answers the length of the whole report. If it is above out_length, only its first out_length bytes were written. 54,014
- * bytes are room for every report.
+ * The report on a hatch list, as text: each record clipped as a line. "HSL", version and count; then for each record a
+ * line with its place from 1 and "miss", or "hit" with tmin and tmax as eight hexadecimal digits of their bits, any
+ * zero as 00000000. Fields stand one space apart, and a line ends in a line feed. For a list that bgz_hatch_read_floats
+ * refuses, whatever the room, the text is "refused" and the number.
+ * Writes as much of the text as out has room for to its start, with no NUL after it, and answers the bytes of the whole
+ * text.
+ * Example: "HSL\1\0\0\0", [0; 8] gives 8 and leaves "HSL 1 0\n".
  */
-size_t bgz_hatch_report(const uint8_t *bytes, size_t bytes_length, uint8_t *out, size_t out_length);
+size_t bgz_hatch_report(const void *bytes, size_t bytes_length, void *out, size_t out_length);
 
 #ifdef __cplusplus
 }

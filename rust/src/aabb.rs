@@ -1,13 +1,35 @@
-//! Upright boxes in any number of dimensions, here two.
+//! Upright boxes: clipping lines, and what is inside.
+//!
+//! Written by tests/generate from crates/c_aabb/src/lib.rt: change that, and run it.
 
+use crate::answers::Interval;
 use crate::shapes::{Aabb2, Vec2};
 
 unsafe extern "C" {
-    /// Whether `p` is in the box, edges included.
+    /// Whether `p` is in `b`, edges included. A NaN is outside.
+    ///
+    /// # Example
+    ///
+    /// ```
+    /// use bagnoszyk::{Aabb2, Vec2, aabb};
+    ///
+    /// let b = Aabb2::from([0.0, 0.0, 4.0, 2.0]);
+    /// let p = Vec2 { x: 4.0, y: 1.0 };
+    /// assert_eq!(aabb::is_include_point(b, p), true);
+    /// ```
     #[link_name = "bgz_aabb_is_include_point"]
     pub safe fn is_include_point(b: Aabb2, p: Vec2) -> bool;
 
-    /// The centre.
+    /// (low + high) * 0.5, by component.
+    ///
+    /// # Example
+    ///
+    /// ```
+    /// use bagnoszyk::{Aabb2, Vec2, aabb};
+    ///
+    /// let b = Aabb2::from([0.0, 0.0, 4.0, 2.0]);
+    /// assert_eq!(aabb::center(b), Vec2 { x: 2.0, y: 1.0 });
+    /// ```
     #[link_name = "bgz_aabb_center"]
     pub safe fn center(b: Aabb2) -> Vec2;
 }
@@ -33,14 +55,39 @@ mod raw {
     }
 }
 
-/// The parameters at which the line enters and leaves the box, or none where it misses.
+/// The stretch of the line `origin` + t * `direction` in the box `b`: tmin <= tmax, both finite.
+/// None if the line misses `b`; touching an edge or a corner is a hit. Where a component of
+/// `direction` is a zero, that dimension only tests that `origin` is not outside. t keeps its sign:
+/// a line may be in the box only at negative t.
+///
+/// # Example
+///
+/// ```
+/// use bagnoszyk::{Aabb2, Interval, Vec2, aabb};
+///
+/// let b = Aabb2::from([0.0, 0.0, 4.0, 2.0]);
+/// let origin = Vec2 { x: 6.0, y: -1.0 };
+/// let direction = Vec2 { x: -1.0, y: 1.0 };
+/// assert_eq!(aabb::intersections_against_line(b, origin, direction), Some(Interval { tmin: 2.0, tmax: 3.0 }));
+/// ```
 #[inline]
-pub fn intersections_against_line(b: Aabb2, origin: Vec2, direction: Vec2) -> Option<(f32, f32)> {
+pub fn intersections_against_line(b: Aabb2, origin: Vec2, direction: Vec2) -> Option<Interval> {
     raw::intersections_against_line(b, origin, direction).option()
 }
 
-/// The line's answer where it leaves at 0 or later. The entry is not raised to 0.
+/// The line's answer if tmax >= 0, and else none. tmin is not raised to 0: it may be negative.
+///
+/// # Example
+///
+/// ```
+/// use bagnoszyk::{Aabb2, Interval, Vec2, aabb};
+///
+/// let b = Aabb2::from([0.0, 0.0, 4.0, 2.0]);
+/// let origin = Vec2 { x: 2.0, y: 1.0 };
+/// let direction = Vec2 { x: 1.0, y: 0.0 };
+/// assert_eq!(aabb::intersections_against_ray(b, origin, direction), Some(Interval { tmin: -2.0, tmax: 2.0 }));
+/// ```
 #[inline]
-pub fn intersections_against_ray(b: Aabb2, origin: Vec2, direction: Vec2) -> Option<(f32, f32)> {
+pub fn intersections_against_ray(b: Aabb2, origin: Vec2, direction: Vec2) -> Option<Interval> {
     raw::intersections_against_ray(b, origin, direction).option()
 }

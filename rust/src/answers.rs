@@ -1,31 +1,101 @@
-//! Answers of the C ABI, and what they say in Rust: an option where there may be none, a result where
-//! the call may be refused. The error is the refusal's number.
+//! Answers: what a routine gives where that is more than one number, and the structs of the C ABI.
+//!
+//! Written by tests/generate from crates/c_answers/src/lib.rt and crates/c_hatch/src/answer.rt: change that, and run it.
 
-use crate::hatch::Records;
+use crate::refusal::Refusal;
 use crate::shapes::{Aabb2, Vec2};
 
-/// The status of an answer, and that of none. Any other number is a refusal.
+/// The status of an answer.
 pub const ANSWERED: u32 = 0;
+
+/// The status where there is none of what was asked for. Any other number is a refusal.
 pub const NONE: u32 = 255;
 
+/// The stretch of a line or a ray in a box, by the parameters t of its two ends: the points origin
+/// + t * direction.
+#[derive(Clone, Copy, Debug, PartialEq)]
+pub struct Interval {
+    /// Where it begins.
+    pub tmin: f32,
+    /// Where it ends.
+    pub tmax: f32,
+}
+
+/// Columns from x0 up to and without x1, rows from y0 up to and without y1.
+#[derive(Clone, Copy, Debug, PartialEq, Eq)]
+pub struct Pixels {
+    /// The first column.
+    pub x0: usize,
+    /// The first row.
+    pub y0: usize,
+    /// The column after the last.
+    pub x1: usize,
+    /// The row after the last.
+    pub y1: usize,
+}
+
+/// The version of a hatch list, and how many records were read.
+#[derive(Clone, Copy, Debug, PartialEq, Eq)]
+pub struct Read {
+    /// The version.
+    pub version: usize,
+    /// The number of records.
+    pub count: usize,
+}
+
+#[doc(hidden)]
 #[repr(C)]
 pub struct FloatAnswer {
     pub status: u32,
     pub value: f32,
 }
 
+impl FloatAnswer {
+    #[inline]
+    pub fn result(self) -> Result<f32, Refusal> {
+        result(self.status, self.value)
+    }
+
+    #[inline]
+    pub fn result_of_option(self) -> Result<Option<f32>, Refusal> {
+        result_of_option(self.status, self.value)
+    }
+}
+
+#[doc(hidden)]
 #[repr(C)]
 pub struct PointAnswer {
     pub status: u32,
     pub value: Vec2,
 }
 
+impl PointAnswer {
+    #[inline]
+    pub fn option(self) -> Option<Vec2> {
+        option(self.status, self.value)
+    }
+
+    #[inline]
+    pub fn result(self) -> Result<Vec2, Refusal> {
+        result(self.status, self.value)
+    }
+}
+
+#[doc(hidden)]
 #[repr(C)]
 pub struct BoxAnswer {
     pub status: u32,
     pub value: Aabb2,
 }
 
+impl BoxAnswer {
+    #[inline]
+    pub fn result(self) -> Result<Aabb2, Refusal> {
+        result(self.status, self.value)
+    }
+}
+
+#[doc(hidden)]
 #[repr(C)]
 pub struct IntervalAnswer {
     pub status: u32,
@@ -33,6 +103,14 @@ pub struct IntervalAnswer {
     pub tmax: f32,
 }
 
+impl IntervalAnswer {
+    #[inline]
+    pub fn option(self) -> Option<Interval> {
+        option(self.status, Interval { tmin: self.tmin, tmax: self.tmax })
+    }
+}
+
+#[doc(hidden)]
 #[repr(C)]
 pub struct PixelsAnswer {
     pub status: u32,
@@ -42,12 +120,28 @@ pub struct PixelsAnswer {
     pub y1: usize,
 }
 
+impl PixelsAnswer {
+    #[inline]
+    pub fn result(self) -> Result<Pixels, Refusal> {
+        result(self.status, Pixels { x0: self.x0, y0: self.y0, x1: self.x1, y1: self.y1 })
+    }
+}
+
+#[doc(hidden)]
 #[repr(C)]
 pub struct CountAnswer {
     pub status: u32,
     pub count: usize,
 }
 
+impl CountAnswer {
+    #[inline]
+    pub fn result(self) -> Result<usize, Refusal> {
+        result(self.status, self.count)
+    }
+}
+
+#[doc(hidden)]
 #[repr(C)]
 pub struct ReadAnswer {
     pub status: u32,
@@ -55,71 +149,24 @@ pub struct ReadAnswer {
     pub count: usize,
 }
 
-impl FloatAnswer {
-    #[inline]
-    pub fn result(self) -> Result<f32, u32> {
-        result(self.status, self.value)
-    }
-
-    #[inline]
-    pub fn option(self) -> Result<Option<f32>, u32> {
-        option(self.status, self.value)
-    }
-}
-
-impl PointAnswer {
-    #[inline]
-    pub fn result(self) -> Result<Vec2, u32> {
-        result(self.status, self.value)
-    }
-
-    #[inline]
-    pub fn option(self) -> Option<Vec2> {
-        (self.status == ANSWERED).then_some(self.value)
-    }
-}
-
-impl BoxAnswer {
-    #[inline]
-    pub fn result(self) -> Result<Aabb2, u32> {
-        result(self.status, self.value)
-    }
-}
-
-impl IntervalAnswer {
-    #[inline]
-    pub fn option(self) -> Option<(f32, f32)> {
-        (self.status == ANSWERED).then_some((self.tmin, self.tmax))
-    }
-}
-
-impl PixelsAnswer {
-    #[inline]
-    pub fn result(self) -> Result<[usize; 4], u32> {
-        result(self.status, [self.x0, self.y0, self.x1, self.y1])
-    }
-}
-
-impl CountAnswer {
-    #[inline]
-    pub fn result(self) -> Result<usize, u32> {
-        result(self.status, self.count)
-    }
-}
-
 impl ReadAnswer {
     #[inline]
-    pub fn result(self) -> Result<Records, u32> {
-        result(self.status, Records { version: self.version, count: self.count })
+    pub fn result(self) -> Result<Read, Refusal> {
+        result(self.status, Read { version: self.version, count: self.count })
     }
 }
 
 #[inline]
-fn result<T>(status: u32, value: T) -> Result<T, u32> {
-    if status == ANSWERED { Ok(value) } else { Err(status) }
+pub(crate) fn option<T>(status: u32, value: T) -> Option<T> {
+    (status == ANSWERED).then_some(value)
 }
 
 #[inline]
-fn option<T>(status: u32, value: T) -> Result<Option<T>, u32> {
+pub(crate) fn result<T>(status: u32, value: T) -> Result<T, Refusal> {
+    if status == ANSWERED { Ok(value) } else { Err(Refusal::numbered(status)) }
+}
+
+#[inline]
+pub(crate) fn result_of_option<T>(status: u32, value: T) -> Result<Option<T>, Refusal> {
     if status == NONE { Ok(None) } else { result(status, value).map(Some) }
 }

@@ -1,37 +1,130 @@
-//! Edges.
+//! Edges, and pen strokes along them.
+//!
+//! Written by tests/generate from crates/c_edge2/src/lib.rt: change that, and run it.
 
+use crate::refusal::Refusal;
 use crate::shapes::{Aabb2, OnEdge, Vec2};
 
 unsafe extern "C" {
     /// The length of the edge from `s` to `e`.
+    ///
+    /// # Example
+    ///
+    /// ```
+    /// use bagnoszyk::{Vec2, edge2};
+    ///
+    /// let s = Vec2 { x: 0.0, y: 0.0 };
+    /// let e = Vec2 { x: 3.0, y: 4.0 };
+    /// assert_eq!(edge2::length(s, e), 5.0);
+    /// ```
     #[link_name = "bgz_edge2_length"]
     pub safe fn length(s: Vec2, e: Vec2) -> f32;
 
     /// The squared length of the edge from `s` to `e`.
+    ///
+    /// # Example
+    ///
+    /// ```
+    /// use bagnoszyk::{Vec2, edge2};
+    ///
+    /// let s = Vec2 { x: 0.0, y: 0.0 };
+    /// let e = Vec2 { x: 3.0, y: 4.0 };
+    /// assert_eq!(edge2::squared_length(s, e), 25.0);
+    /// ```
     #[link_name = "bgz_edge2_squared_length"]
     pub safe fn squared_length(s: Vec2, e: Vec2) -> f32;
 
-    /// The direction from `s` to `e`, of length one but for rounding.
+    /// The direction from `s` to `e`: `e` - `s` times 1 / length. An edge whose computed length is
+    /// 0 gives infinities or NaN.
+    ///
+    /// # Example
+    ///
+    /// ```
+    /// use bagnoszyk::{Vec2, edge2};
+    ///
+    /// let s = Vec2 { x: 0.0, y: 0.0 };
+    /// let e = Vec2 { x: 0.0, y: 2.0 };
+    /// assert_eq!(edge2::unit_edge_vector(s, e), Vec2 { x: 0.0, y: 1.0 });
+    /// ```
     #[link_name = "bgz_edge2_unit_edge_vector"]
     pub safe fn unit_edge_vector(s: Vec2, e: Vec2) -> Vec2;
 
-    /// The point at a ratio from `p0`, at 0, to `p1`, at 1.
+    /// (1 - `ratio`) * `p0` + `ratio` * `p1`: `p0` at 0, `p1` at 1. Any ratio is taken.
+    ///
+    /// # Example
+    ///
+    /// ```
+    /// use bagnoszyk::{Vec2, edge2};
+    ///
+    /// let p0 = Vec2 { x: 0.0, y: 0.0 };
+    /// let p1 = Vec2 { x: 4.0, y: 8.0 };
+    /// assert_eq!(edge2::position_from_ratio(p0, p1, 0.25), Vec2 { x: 1.0, y: 2.0 });
+    /// ```
     #[link_name = "bgz_edge2_position_from_ratio"]
     pub safe fn position_from_ratio(p0: Vec2, p1: Vec2, ratio: f32) -> Vec2;
 
-    /// del-geo-core's formula: `q` is measured from the origin, and the edge's length divides.
+    /// The dot product of `pe` - `ps` and `q`, divided by the length of `pe` - `ps`. This is
+    /// del-geo-core's formula: `q` is measured from the origin and not from `ps`, and the result is
+    /// a length and not a ratio.
+    ///
+    /// # Example
+    ///
+    /// ```
+    /// use bagnoszyk::{Vec2, edge2};
+    ///
+    /// let ps = Vec2 { x: 0.0, y: 0.0 };
+    /// let pe = Vec2 { x: 4.0, y: 0.0 };
+    /// let q = Vec2 { x: 3.0, y: 1.0 };
+    /// assert_eq!(edge2::ratio_from_position(ps, pe, q), 3.0);
+    /// ```
     #[link_name = "bgz_edge2_ratio_from_position"]
     pub safe fn ratio_from_position(ps: Vec2, pe: Vec2, q: Vec2) -> f32;
 
-    /// Whether the edges' boxes, slightly widened, meet: where they do not, the edges cannot cross.
+    /// Whether the upright boxes of two edges meet, widened by 2^-23 times the sum of their sides.
+    /// Where they do not, the edges cannot cross.
+    ///
+    /// # Example
+    ///
+    /// ```
+    /// use bagnoszyk::{Vec2, edge2};
+    ///
+    /// let s0 = Vec2 { x: 0.0, y: 0.0 };
+    /// let e0 = Vec2 { x: 1.0, y: 1.0 };
+    /// let s1 = Vec2 { x: 2.0, y: 2.0 };
+    /// let e1 = Vec2 { x: 3.0, y: 3.0 };
+    /// assert_eq!(edge2::culling_intersection(s0, e0, s1, e1), false);
+    /// ```
     #[link_name = "bgz_edge2_culling_intersection"]
     pub safe fn culling_intersection(s0: Vec2, e0: Vec2, s1: Vec2, e1: Vec2) -> bool;
 
-    /// The point of the edge nearest to the origin.
+    /// The point of the edge from `s` to `e` that is nearest to (0, 0), with its ratio. An edge
+    /// whose computed squared length is 0 gives its midpoint, with ratio 0.5.
+    ///
+    /// # Example
+    ///
+    /// ```
+    /// use bagnoszyk::{OnEdge, Vec2, edge2};
+    ///
+    /// let s = Vec2 { x: -1.0, y: 1.0 };
+    /// let e = Vec2 { x: 1.0, y: 1.0 };
+    /// assert_eq!(edge2::nearest_origin(s, e), OnEdge { ratio: 0.5, point: Vec2 { x: 0.0, y: 1.0 } });
+    /// ```
     #[link_name = "bgz_edge2_nearest_origin"]
     pub safe fn nearest_origin(s: Vec2, e: Vec2) -> OnEdge;
 
-    /// The point of the edge nearest to `p`.
+    /// The point of the edge from `s` to `e` that is nearest to `p`, with its ratio. An edge whose
+    /// computed squared length is 0 gives its midpoint, with ratio 0.5.
+    ///
+    /// # Example
+    ///
+    /// ```
+    /// use bagnoszyk::{OnEdge, Vec2, edge2};
+    ///
+    /// let s = Vec2 { x: 0.0, y: 0.0 };
+    /// let e = Vec2 { x: 4.0, y: 0.0 };
+    /// let p = Vec2 { x: 1.0, y: 5.0 };
+    /// assert_eq!(edge2::nearest_to_point(s, e, p), OnEdge { ratio: 0.25, point: Vec2 { x: 1.0, y: 0.0 } });
+    /// ```
     #[link_name = "bgz_edge2_nearest_to_point"]
     pub safe fn nearest_to_point(s: Vec2, e: Vec2, p: Vec2) -> OnEdge;
 }
@@ -54,24 +147,87 @@ mod raw {
             p0: Vec2,
             p1: Vec2,
             list: *mut u32,
-            room: usize,
+            list_length: usize,
         ) -> CountAnswer;
     }
 }
 
-/// The diagonal of what the edge and the box share in x and in y. Refused: `ORDER`.
+/// The length of the edge from `s` to `e` in the box `b`, as del-geo-core takes it: the diagonal of
+/// what the box's range and the range between the ends share in x and in y. 0 if they share nothing
+/// in x, or nothing in y. It is the exact length only where the edge runs from corner to corner of
+/// what is shared.
+///
+/// # Errors
+///
+/// [[`Refusal::ORDER`](crate::Refusal::ORDER)] if in x the box is not low <= high, as with a NaN,
+/// or both ends are NaN; then, unless x shares nothing, the same in y.
+///
+/// # Example
+///
+/// ```
+/// use bagnoszyk::{Aabb2, Vec2, edge2};
+///
+/// let s = Vec2 { x: 0.0, y: 0.0 };
+/// let e = Vec2 { x: 3.0, y: 4.0 };
+/// let b = Aabb2::from([0.0, 0.0, 3.0, 4.0]);
+/// assert_eq!(edge2::intersection_length_against_aabb2(s, e, b), Ok(5.0));
+/// ```
 #[inline]
-pub fn intersection_length_against_aabb2(s: Vec2, e: Vec2, b: Aabb2) -> Result<f32, u32> {
+pub fn intersection_length_against_aabb2(s: Vec2, e: Vec2, b: Aabb2) -> Result<f32, Refusal> {
     raw::intersection_length_against_aabb2(s, e, b).result()
 }
 
-/// The ink that a stroke leaves in a box: the length above. Refused: `ORDER`.
+/// The ink that the stroke from `s` to `e` leaves in the box `b`:
+/// [`edge2::intersection_length_against_aabb2`](crate::edge2::intersection_length_against_aabb2),
+/// with its refusal.
+///
+/// # Errors
+///
+/// [[`Refusal::ORDER`](crate::Refusal::ORDER)] if in x the box is not low <= high, as with a NaN,
+/// or both ends are NaN; then, unless x shares nothing, the same in y.
+///
+/// # Example
+///
+/// ```
+/// use bagnoszyk::{Aabb2, Vec2, edge2};
+///
+/// let s = Vec2 { x: 0.0, y: 0.0 };
+/// let e = Vec2 { x: 6.0, y: 8.0 };
+/// let b = Aabb2::from([0.0, 0.0, 3.0, 4.0]);
+/// assert_eq!(edge2::ink(s, e, b), Ok(5.0));
+/// ```
 #[inline]
-pub fn ink(s: Vec2, e: Vec2, b: Aabb2) -> Result<f32, u32> {
+pub fn ink(s: Vec2, e: Vec2, b: Aabb2) -> Result<f32, Refusal> {
     raw::ink(s, e, b).result()
 }
 
-/// Writes the pixels under a stroke to the start of `list` and answers how many. Refused: `SIZE`, `COORDINATE`, `SAME_ENDS`, `ROOM`.
+/// The pixels under the stroke from `p0` to `p1`, in an image of `width` by `height` pixels; a side
+/// may be 0. A walk starts at `p0`. Each step adds the difference of the ends divided by the larger
+/// absolute difference, signs kept. The walk goes on while x and y lie within the ends' ranges,
+/// widened by 2^-23. Each position in the image enters row * `width` + column. The position after
+/// them enters the same as a closing entry, a negative coordinate as 0: it may name a pixel of the
+/// next row, or none.
+///
+/// Writes the entries to the start of `list` and answers how many, which is never above 131,075.
+///
+/// # Errors
+///
+/// [[`Refusal::SIZE`](crate::Refusal::SIZE)] if `width` or `height` is above 16,384;
+/// [[`Refusal::COORDINATE`](crate::Refusal::COORDINATE)] if a coordinate is not finite or is above
+/// 65,536 in size; [[`Refusal::SAME_ENDS`](crate::Refusal::SAME_ENDS)] if `p0` equals `p1`;
+/// [[`Refusal::ROOM`](crate::Refusal::ROOM)] if `list` is shorter than the entries.
+///
+/// # Example
+///
+/// ```
+/// use bagnoszyk::{Vec2, edge2};
+///
+/// let p0 = Vec2 { x: 1.5, y: 1.5 };
+/// let p1 = Vec2 { x: 3.5, y: 1.5 };
+/// let mut list: [u32; 6] = [0; 6];
+/// assert_eq!(edge2::overlapping_pixels_dda(8, 4, p0, p1, &mut list), Ok(4));
+/// assert_eq!(list, [9, 10, 11, 12, 0, 0]);
+/// ```
 #[inline]
 pub fn overlapping_pixels_dda(
     width: usize,
@@ -79,8 +235,10 @@ pub fn overlapping_pixels_dda(
     p0: Vec2,
     p1: Vec2,
     list: &mut [u32],
-) -> Result<usize, u32> {
-    let (start, room) = (list.as_mut_ptr(), list.len());
-    // The list is lent for the call alone, by its start and its length.
-    unsafe { raw::overlapping_pixels_dda(width, height, p0, p1, start, room) }.result()
+) -> Result<usize, Refusal> {
+    let a = unsafe {
+        // SAFETY: each list is lent for the call alone, by its start and its length.
+        raw::overlapping_pixels_dda(width, height, p0, p1, list.as_mut_ptr(), list.len())
+    };
+    a.result()
 }

@@ -1,11 +1,11 @@
-//! Hatch lists: records of eight floats, box, point and direction.
+//! Hatch lists, and the report on one. The bytes of a hatch list are "HSL", a 16-bit version, which
+//! is 1, a 16-bit count n of at most 2,000, and n records of eight floats: box (min_x, min_y,
+//! max_x, max_y), origin (x, y), direction (x, y). Little-endian; 7 + 32 n bytes in all.
+//!
+//! Written by tests/generate from crates/c_hatch/src/lib.rt: change that, and run it.
 
-/// What was read of a hatch list.
-#[derive(Clone, Copy, Debug, PartialEq, Eq)]
-pub struct Records {
-    pub version: usize,
-    pub count: usize,
-}
+use crate::answers::Read;
+use crate::refusal::Refusal;
 
 mod raw {
     use crate::answers::*;
@@ -14,51 +14,128 @@ mod raw {
         #[link_name = "bgz_hatch_read_patterns"]
         pub fn read_patterns(
             bytes: *const u8,
-            length: usize,
+            bytes_length: usize,
             out: *mut u32,
-            room: usize,
+            out_length: usize,
         ) -> ReadAnswer;
 
         #[link_name = "bgz_hatch_read_floats"]
         pub fn read_floats(
             bytes: *const u8,
-            length: usize,
+            bytes_length: usize,
             out: *mut f32,
-            room: usize,
+            out_length: usize,
         ) -> ReadAnswer;
 
         #[link_name = "bgz_hatch_record_count"]
-        pub fn record_count(floats: *const f32, length: usize) -> usize;
+        pub fn record_count(floats: *const f32, floats_length: usize) -> usize;
 
         #[link_name = "bgz_hatch_report"]
-        pub fn report(bytes: *const u8, length: usize, out: *mut u8, room: usize) -> usize;
+        pub fn report(
+            bytes: *const u8,
+            bytes_length: usize,
+            out: *mut u8,
+            out_length: usize,
+        ) -> usize;
     }
 }
 
-/// Writes the floats of the records, eight each, to the start of `out`. Refused: `MARK`, `VERSION`, `COUNT`, `LENGTH`, `ROOM`.
+/// [`hatch::read_floats`](crate::hatch::read_floats) with each float as its bits, so that a NaN
+/// keeps them.
+///
+/// Writes the 8 * count patterns to the start of `out` and answers version and count.
+///
+/// # Errors
+///
+/// as there.
+///
+/// # Example
+///
+/// ```
+/// use bagnoszyk::{Read, hatch};
+///
+/// let mut out: [u32; 0] = [];
+/// assert_eq!(hatch::read_patterns(b"HSL\x01\0\0\0", &mut out), Ok(Read { version: 1, count: 0 }));
+/// ```
 #[inline]
-pub fn read_floats(bytes: &[u8], out: &mut [f32]) -> Result<Records, u32> {
-    let (start, room) = (out.as_mut_ptr(), out.len());
-    // The lists are lent for the call alone, each by its start and its length.
-    unsafe { raw::read_floats(bytes.as_ptr(), bytes.len(), start, room) }.result()
+pub fn read_patterns(bytes: &[u8], out: &mut [u32]) -> Result<Read, Refusal> {
+    let a = unsafe {
+        // SAFETY: each list is lent for the call alone, by its start and its length.
+        raw::read_patterns(bytes.as_ptr(), bytes.len(), out.as_mut_ptr(), out.len())
+    };
+    a.result()
 }
 
-/// The same with each float as its bits, so that a NaN keeps them.
+/// Reads the floats of the records of a hatch list. A float may have any bits; every NaN is read as
+/// a NaN of any bits.
+///
+/// Writes the 8 * count floats to the start of `out` and answers version and count.
+///
+/// # Errors
+///
+/// [[`Refusal::MARK`](crate::Refusal::MARK)] if the bytes do not begin with "HSL";
+/// [[`Refusal::LENGTH`](crate::Refusal::LENGTH)] if they are fewer than 7;
+/// [[`Refusal::VERSION`](crate::Refusal::VERSION)] if the version is not 1;
+/// [[`Refusal::COUNT`](crate::Refusal::COUNT)] if the count is above 2,000;
+/// [[`Refusal::LENGTH`](crate::Refusal::LENGTH)] if they are not 7 + 32 * count;
+/// [[`Refusal::ROOM`](crate::Refusal::ROOM)] if `out` is shorter than 8 * count.
+///
+/// # Example
+///
+/// ```
+/// use bagnoszyk::{Read, hatch};
+///
+/// let mut out: [f32; 0] = [];
+/// assert_eq!(hatch::read_floats(b"HSL\x01\0\0\0", &mut out), Ok(Read { version: 1, count: 0 }));
+/// ```
 #[inline]
-pub fn read_patterns(bytes: &[u8], out: &mut [u32]) -> Result<Records, u32> {
-    let (start, room) = (out.as_mut_ptr(), out.len());
-    unsafe { raw::read_patterns(bytes.as_ptr(), bytes.len(), start, room) }.result()
+pub fn read_floats(bytes: &[u8], out: &mut [f32]) -> Result<Read, Refusal> {
+    let a = unsafe {
+        // SAFETY: each list is lent for the call alone, by its start and its length.
+        raw::read_floats(bytes.as_ptr(), bytes.len(), out.as_mut_ptr(), out.len())
+    };
+    a.result()
 }
 
 /// How many records a list of floats has, eight floats each; an incomplete last one does not count.
+///
+/// # Example
+///
+/// ```
+/// use bagnoszyk::hatch;
+///
+/// assert_eq!(hatch::record_count(&[0.0, 0.0, 4.0, 2.0, 6.0, -1.0, -1.0, 1.0, 0.0]), 1);
+/// ```
 #[inline]
 pub fn record_count(floats: &[f32]) -> usize {
-    unsafe { raw::record_count(floats.as_ptr(), floats.len()) }
+    unsafe {
+        // SAFETY: each list is lent for the call alone, by its start and its length.
+        raw::record_count(floats.as_ptr(), floats.len())
+    }
 }
 
-/// Clips each record as a line, writes the report to the start of `out` as far as it has room, and answers the length of the whole report.
+/// The report on a hatch list, as text: each record clipped as a line. "HSL", version and count;
+/// then for each record a line with its place from 1 and "miss", or "hit" with tmin and tmax as
+/// eight hexadecimal digits of their bits, any zero as 00000000. Fields stand one space apart, and
+/// a line ends in a line feed. For a list that [`hatch::read_floats`](crate::hatch::read_floats)
+/// refuses, whatever the room, the text is "refused" and the number.
+///
+/// Writes as much of the text as `out` has room for to its start, with no NUL after it, and answers
+/// the bytes of the whole text.
+///
+/// # Example
+///
+/// ```
+/// use bagnoszyk::hatch;
+///
+/// let mut out: [u8; 8] = [0; 8];
+/// assert_eq!(hatch::report(b"HSL\x01\0\0\0", &mut out), 8);
+/// assert_eq!(out, *b"HSL 1 0\n");
+/// ```
 #[inline]
 pub fn report(bytes: &[u8], out: &mut [u8]) -> usize {
-    let (start, room) = (out.as_mut_ptr(), out.len());
-    unsafe { raw::report(bytes.as_ptr(), bytes.len(), start, room) }
+    unsafe {
+        // SAFETY: each list is lent for the call alone, by its start and its length.
+        raw::report(bytes.as_ptr(), bytes.len(), out.as_mut_ptr(), out.len())
+    }
 }

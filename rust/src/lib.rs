@@ -1,7 +1,24 @@
 //! Geometry for patent drawings in f32, proved: the library's C ABI as safe Rust, a file for each module.
 //!
-//! Every function takes any bits and ends. A lent list is written from its start, its other entries stay as they are, and a
-//! refused call changes nothing; the error is a number of [`refusal`]. include/bagnoszyk.h says when each is given.
+//! Every function takes any bits and ends. What may be missing is an [`Option`], and what may be refused a [`Result`] with a [`Refusal`]. A
+//! lent list is written from its start, its other entries stay as they are, and a refused call changes nothing.
+//!
+//! ```
+//! use bagnoszyk::{Aabb2, Refusal, Vec2, aabb, aabb2};
+//!
+//! fn stretch(p: Vec2, q: Vec2) -> Result<f32, Refusal> {
+//!     let face = aabb2::add_point(aabb2::from_point(p, 0.0)?, q, 1.0)?;
+//!     let hit = aabb::intersections_against_line(face, p, Vec2 { x: 1.0, y: 0.0 });
+//!     Ok(hit.map_or(0.0, |t| t.tmax - t.tmin))
+//! }
+//!
+//! assert_eq!(stretch(Vec2 { x: 0.0, y: 0.0 }, Vec2 { x: 4.0, y: 2.0 }), Ok(5.0));
+//!
+//! let reversed = Aabb2 { min_x: 1.0, min_y: 0.0, max_x: 0.0, max_y: 1.0 };
+//! let refused = aabb2::nearest_point2(reversed, Vec2 { x: 0.0, y: 0.0 }).unwrap_err();
+//! assert_eq!(refused, Refusal::ORDER);
+//! assert_eq!(refused.to_string(), "a range is not ordered: low is not at most high");
+//! ```
 //!
 //! To build against an installed library, run `./install PREFIX` in the repository, name this folder in your Cargo.toml,
 //! `bagnoszyk = { path = "REPOSITORY/rust" }`, and let BAGNOSZYK_STATICLIB name the archive's folder by its whole path:
@@ -12,15 +29,24 @@
 //!
 //! The wrappers are marked to be inlined: a struct handed on by a call of its own costs more than a clip.
 
+#![warn(missing_docs)]
+
 pub mod aabb;
 pub mod aabb2;
 pub mod answers;
 pub mod edge2;
 pub mod f32;
 pub mod hatch;
+pub mod limits;
 pub mod mat3;
 pub mod obb2;
 pub mod range;
-pub mod refusal;
+mod refusal;
 pub mod shapes;
 pub mod vec2;
+mod view;
+
+pub use answers::{Interval, Pixels, Read};
+pub use refusal::Refusal;
+pub use shapes::*;
+pub use view::Boxes;

@@ -1,4 +1,6 @@
-//! Matrices.
+//! Transforms.
+//!
+//! Written by tests/generate from crates/c_mat3/src/lib.rt: change that, and run it.
 
 use crate::shapes::{Mat3, Vec2};
 
@@ -12,7 +14,18 @@ mod raw {
     }
 }
 
-/// The image of a point, or none where the computed denominator is zero.
+/// The image of `p`: `m` times (p.x, p.y, 1), divided by its third component. None if that
+/// component, as computed, is a zero.
+///
+/// # Example
+///
+/// ```
+/// use bagnoszyk::{Mat3, Vec2, mat3};
+///
+/// let m = Mat3::from([1.0, 0.0, 0.0, 0.0, 1.0, 0.0, 2.0, 3.0, 1.0]);
+/// let p = Vec2 { x: 4.0, y: 5.0 };
+/// assert_eq!(mat3::transform_homogeneous(m, p), Some(Vec2 { x: 6.0, y: 8.0 }));
+/// ```
 #[inline]
 pub fn transform_homogeneous(m: Mat3, p: Vec2) -> Option<Vec2> {
     raw::transform_homogeneous(m, p).option()

@@ -1,5 +1,8 @@
-//! Ranges.
+//! Ranges of numbers.
+//!
+//! Written by tests/generate from crates/c_range/src/lib.rt: change that, and run it.
 
+use crate::refusal::Refusal;
 use crate::shapes::Range;
 
 mod raw {
@@ -15,14 +18,43 @@ mod raw {
     }
 }
 
-/// The gap between two ranges, or none where they touch or overlap. Refused: `ORDER`.
+/// The gap between two ranges. None if they touch or overlap.
+///
+/// # Errors
+///
+/// [[`Refusal::ORDER`](crate::Refusal::ORDER)] if `a` or `b` is not low <= high, as with a NaN.
+///
+/// # Example
+///
+/// ```
+/// use bagnoszyk::{Range, range};
+///
+/// let a = Range { low: 0.0, high: 1.0 };
+/// let b = Range { low: 3.0, high: 5.0 };
+/// assert_eq!(range::distance_to_range(a, b), Ok(Some(2.0)));
+/// ```
 #[inline]
-pub fn distance_to_range(a: Range, b: Range) -> Result<Option<f32>, u32> {
-    raw::distance_to_range(a, b).option()
+pub fn distance_to_range(a: Range, b: Range) -> Result<Option<f32>, Refusal> {
+    raw::distance_to_range(a, b).result_of_option()
 }
 
-/// The length that two ranges share, or none where they touch or lie apart. Refused: `ORDER`.
+/// The length that two ranges share. None if they touch or lie apart; a range of one point strictly
+/// inside the other gives 0.
+///
+/// # Errors
+///
+/// [[`Refusal::ORDER`](crate::Refusal::ORDER)] if `a` or `b` is not low <= high, as with a NaN.
+///
+/// # Example
+///
+/// ```
+/// use bagnoszyk::{Range, range};
+///
+/// let a = Range { low: 0.0, high: 4.0 };
+/// let b = Range { low: 3.0, high: 5.0 };
+/// assert_eq!(range::intersection_length(a, b), Ok(Some(1.0)));
+/// ```
 #[inline]
-pub fn intersection_length(a: Range, b: Range) -> Result<Option<f32>, u32> {
-    raw::intersection_length(a, b).option()
+pub fn intersection_length(a: Range, b: Range) -> Result<Option<f32>, Refusal> {
+    raw::intersection_length(a, b).result_of_option()
 }

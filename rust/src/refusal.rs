@@ -1,40 +1,87 @@
-//! The numbers of refusals, as in crates/types/src/refusal.rt.
+//! Refusals.
+//!
+//! Written by tests/generate from crates/types/src/refusal.rt: change that, and run it.
 
-/// A lent list is shorter than what is to be written.
-pub const ROOM: u32 = 1;
+use std::error::Error;
+use std::fmt;
 
-/// Both ends of a stroke are equal.
-pub const SAME_ENDS: u32 = 2;
+/// Why a call was refused. Its number is the status that the C function gives.
+#[derive(Clone, Copy, Debug, PartialEq, Eq, Hash)]
+pub struct Refusal(u32);
 
-/// A coordinate is not finite, or too large.
-pub const COORDINATE: u32 = 3;
+impl Refusal {
+    /// A lent list is shorter than what is to be written.
+    pub const ROOM: Refusal = Refusal(1);
 
-/// A side of an image or a sheet is too large, or a tile size is 0 or too large.
-pub const SIZE: u32 = 4;
+    /// Both ends of a stroke are equal.
+    pub const SAME_ENDS: Refusal = Refusal(2);
 
-/// A range is not ordered: low is not at most high.
-pub const ORDER: u32 = 5;
+    /// A coordinate is not finite, or too large.
+    pub const COORDINATE: Refusal = Refusal(3);
 
-/// A radius is not at least 0.
-pub const RADIUS: u32 = 6;
+    /// A side of an image or a sheet is too large, or a tile size is 0 or too large.
+    pub const SIZE: Refusal = Refusal(4);
 
-/// A length to the turned box is NaN.
-pub const NAN_LENGTH: u32 = 7;
+    /// A range is not ordered: low is not at most high.
+    pub const ORDER: Refusal = Refusal(5);
 
-/// A corner has no image.
-pub const NO_IMAGE: u32 = 8;
+    /// A radius is not at least 0.
+    pub const RADIUS: Refusal = Refusal(6);
 
-/// An index is not below the number of boxes.
-pub const INDEX: u32 = 9;
+    /// A length to the turned box is NaN.
+    pub const NAN_LENGTH: Refusal = Refusal(7);
 
-/// A hatch list does not begin with its mark.
-pub const MARK: u32 = 10;
+    /// A corner has no image.
+    pub const NO_IMAGE: Refusal = Refusal(8);
 
-/// A hatch list has an unknown version.
-pub const VERSION: u32 = 11;
+    /// An index is not below the number of boxes.
+    pub const INDEX: Refusal = Refusal(9);
 
-/// A hatch list has too many records.
-pub const COUNT: u32 = 12;
+    /// A hatch list: another mark, version, count or length.
+    pub const MARK: Refusal = Refusal(10);
 
-/// The bytes of a hatch list are too few or too many.
-pub const LENGTH: u32 = 13;
+    /// A hatch list: another mark, version, count or length.
+    pub const VERSION: Refusal = Refusal(11);
+
+    /// A hatch list: another mark, version, count or length.
+    pub const COUNT: Refusal = Refusal(12);
+
+    /// A hatch list: another mark, version, count or length.
+    pub const LENGTH: Refusal = Refusal(13);
+
+    /// The number of the refusal.
+    #[inline]
+    pub const fn number(self) -> u32 {
+        self.0
+    }
+
+    #[inline]
+    pub(crate) const fn numbered(number: u32) -> Self {
+        Refusal(number)
+    }
+}
+
+impl fmt::Display for Refusal {
+    fn fmt(&self, f: &mut fmt::Formatter<'_>) -> fmt::Result {
+        f.write_str(match *self {
+            Refusal::ROOM => "a lent list is shorter than what is to be written",
+            Refusal::SAME_ENDS => "both ends of a stroke are equal",
+            Refusal::COORDINATE => "a coordinate is not finite, or too large",
+            Refusal::SIZE => {
+                "a side of an image or a sheet is too large, or a tile size is 0 or too large"
+            }
+            Refusal::ORDER => "a range is not ordered: low is not at most high",
+            Refusal::RADIUS => "a radius is not at least 0",
+            Refusal::NAN_LENGTH => "a length to the turned box is NaN",
+            Refusal::NO_IMAGE => "a corner has no image",
+            Refusal::INDEX => "an index is not below the number of boxes",
+            Refusal::MARK => "a hatch list: another mark, version, count or length",
+            Refusal::VERSION => "a hatch list: another mark, version, count or length",
+            Refusal::COUNT => "a hatch list: another mark, version, count or length",
+            Refusal::LENGTH => "a hatch list: another mark, version, count or length",
+            Refusal(number) => return write!(f, "refusal {number}"),
+        })
+    }
+}
+
+impl Error for Refusal {}

@@ -1,4 +1,6 @@
-//! Shapes as the library takes and returns them (crates/types).
+//! Shapes as the library takes and returns them, each also from and to an array of its floats in order.
+//!
+//! Written by tests/generate from crates/types/src/shape.rt and the structs that routines return: change that, and run it.
 
 /// A point or a vector.
 #[derive(Clone, Copy, Debug, PartialEq)]
@@ -6,47 +8,6 @@
 pub struct Vec2 {
     pub x: f32,
     pub y: f32,
-}
-
-/// The numbers from low to high.
-#[derive(Clone, Copy, Debug, PartialEq)]
-#[repr(C)]
-pub struct Range {
-    pub low: f32,
-    pub high: f32,
-}
-
-/// An upright box.
-#[derive(Clone, Copy, Debug, PartialEq)]
-#[repr(C)]
-pub struct Aabb2 {
-    pub min_x: f32,
-    pub min_y: f32,
-    pub max_x: f32,
-    pub max_y: f32,
-}
-
-/// A turned box: its centre and two half edges.
-#[derive(Clone, Copy, Debug, PartialEq)]
-#[repr(C)]
-pub struct Obb2(pub [f32; 6]);
-
-/// Four corners, each joined to the next by an edge.
-#[derive(Clone, Copy, Debug, PartialEq)]
-#[repr(C)]
-pub struct Corners(pub [Vec2; 4]);
-
-/// A 3 by 3 matrix in column-major order.
-#[derive(Clone, Copy, Debug, PartialEq)]
-#[repr(C)]
-pub struct Mat3(pub [f32; 9]);
-
-/// A point of an edge, and its ratio along the edge.
-#[derive(Clone, Copy, Debug, PartialEq)]
-#[repr(C)]
-pub struct OnEdge {
-    pub ratio: f32,
-    pub point: Vec2,
 }
 
 impl From<[f32; 2]> for Vec2 {
@@ -58,9 +19,17 @@ impl From<[f32; 2]> for Vec2 {
 
 impl From<Vec2> for [f32; 2] {
     #[inline]
-    fn from(p: Vec2) -> Self {
-        [p.x, p.y]
+    fn from(s: Vec2) -> Self {
+        [s.x, s.y]
     }
+}
+
+/// The numbers from low to high.
+#[derive(Clone, Copy, Debug, PartialEq)]
+#[repr(C)]
+pub struct Range {
+    pub low: f32,
+    pub high: f32,
 }
 
 impl From<[f32; 2]> for Range {
@@ -68,6 +37,23 @@ impl From<[f32; 2]> for Range {
     fn from([low, high]: [f32; 2]) -> Self {
         Range { low, high }
     }
+}
+
+impl From<Range> for [f32; 2] {
+    #[inline]
+    fn from(s: Range) -> Self {
+        [s.low, s.high]
+    }
+}
+
+/// An upright box: an axis-aligned bounding box by its low and its high corner.
+#[derive(Clone, Copy, Debug, PartialEq)]
+#[repr(C)]
+pub struct Aabb2 {
+    pub min_x: f32,
+    pub min_y: f32,
+    pub max_x: f32,
+    pub max_y: f32,
 }
 
 impl From<[f32; 4]> for Aabb2 {
@@ -79,7 +65,113 @@ impl From<[f32; 4]> for Aabb2 {
 
 impl From<Aabb2> for [f32; 4] {
     #[inline]
-    fn from(b: Aabb2) -> Self {
-        [b.min_x, b.min_y, b.max_x, b.max_y]
+    fn from(s: Aabb2) -> Self {
+        [s.min_x, s.min_y, s.max_x, s.max_y]
+    }
+}
+
+/// A turned box: an oriented bounding box by its centre and two half edges, u and v.
+#[derive(Clone, Copy, Debug, PartialEq)]
+#[repr(C)]
+pub struct Obb2 {
+    pub cx: f32,
+    pub cy: f32,
+    pub ux: f32,
+    pub uy: f32,
+    pub vx: f32,
+    pub vy: f32,
+}
+
+impl From<[f32; 6]> for Obb2 {
+    #[inline]
+    fn from([cx, cy, ux, uy, vx, vy]: [f32; 6]) -> Self {
+        Obb2 { cx, cy, ux, uy, vx, vy }
+    }
+}
+
+impl From<Obb2> for [f32; 6] {
+    #[inline]
+    fn from(s: Obb2) -> Self {
+        [s.cx, s.cy, s.ux, s.uy, s.vx, s.vy]
+    }
+}
+
+/// A 3 by 3 matrix in column-major order: mRC stands in row R and column C.
+#[derive(Clone, Copy, Debug, PartialEq)]
+#[repr(C)]
+pub struct Mat3 {
+    pub m00: f32,
+    pub m10: f32,
+    pub m20: f32,
+    pub m01: f32,
+    pub m11: f32,
+    pub m21: f32,
+    pub m02: f32,
+    pub m12: f32,
+    pub m22: f32,
+}
+
+impl From<[f32; 9]> for Mat3 {
+    #[inline]
+    fn from([m00, m10, m20, m01, m11, m21, m02, m12, m22]: [f32; 9]) -> Self {
+        Mat3 { m00, m10, m20, m01, m11, m21, m02, m12, m22 }
+    }
+}
+
+impl From<Mat3> for [f32; 9] {
+    #[inline]
+    fn from(s: Mat3) -> Self {
+        [s.m00, s.m10, s.m20, s.m01, s.m11, s.m21, s.m02, s.m12, s.m22]
+    }
+}
+
+/// A point of an edge, and its ratio along the edge.
+#[derive(Clone, Copy, Debug, PartialEq)]
+#[repr(C)]
+pub struct OnEdge {
+    pub ratio: f32,
+    pub point: Vec2,
+}
+
+impl From<[f32; 3]> for OnEdge {
+    #[inline]
+    fn from([ratio, point_x, point_y]: [f32; 3]) -> Self {
+        OnEdge { ratio, point: Vec2 { x: point_x, y: point_y } }
+    }
+}
+
+impl From<OnEdge> for [f32; 3] {
+    #[inline]
+    fn from(s: OnEdge) -> Self {
+        [s.ratio, s.point.x, s.point.y]
+    }
+}
+
+/// Four corners, each joined to the next by an edge, and the last to the first.
+#[derive(Clone, Copy, Debug, PartialEq)]
+#[repr(C)]
+pub struct Corners {
+    pub p0: Vec2,
+    pub p1: Vec2,
+    pub p2: Vec2,
+    pub p3: Vec2,
+}
+
+impl From<[f32; 8]> for Corners {
+    #[inline]
+    fn from([p0_x, p0_y, p1_x, p1_y, p2_x, p2_y, p3_x, p3_y]: [f32; 8]) -> Self {
+        Corners {
+            p0: Vec2 { x: p0_x, y: p0_y },
+            p1: Vec2 { x: p1_x, y: p1_y },
+            p2: Vec2 { x: p2_x, y: p2_y },
+            p3: Vec2 { x: p3_x, y: p3_y },
+        }
+    }
+}
+
+impl From<Corners> for [f32; 8] {
+    #[inline]
+    fn from(s: Corners) -> Self {
+        [s.p0.x, s.p0.y, s.p1.x, s.p1.y, s.p2.x, s.p2.y, s.p3.x, s.p3.y]
     }
 }

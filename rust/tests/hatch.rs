@@ -1,11 +1,10 @@
 //! The hatch list through the C ABI: what is read, what is reported, each refusal, and what becomes of the lent lists.
 
-use bagnoszyk::hatch::{self, Records};
-use bagnoszyk::refusal::{COUNT, LENGTH, MARK, ROOM, VERSION};
+use bagnoszyk::{Read, Refusal, hatch};
 
 const SECTION: &[u8] = include_bytes!("../../examples/section.hsl");
 const REPORT: &[u8] = include_bytes!("../../crates/hatch_clip/stdout");
-const RECORDS: Records = Records { version: 1, count: 306 };
+const RECORDS: Read = Read { version: 1, count: 306 };
 
 /// Stands in every entry before a call.
 const MARKED: u32 = 0x5a5a_5a5a;
@@ -60,28 +59,28 @@ fn a_refusal_gives_its_number_and_changes_nothing() {
     };
     // The second byte of the count: 0x0832 records.
     let too_many = edited(6, 8);
-    let cases: [(&[u8], usize, u32); 8] = [
-        (b"", 16_000, MARK),
-        (&edited(2, b'l'), 16_000, MARK),
-        (&SECTION[..6], 16_000, LENGTH),
-        (&edited(3, 2), 16_000, VERSION),
-        (&too_many, 16_000, COUNT),
-        (&SECTION[..SECTION.len() - 1], 16_000, LENGTH),
-        (SECTION, 8 * 306 - 1, ROOM),
-        (SECTION, 0, ROOM),
+    let cases: [(&[u8], usize, Refusal); 8] = [
+        (b"", 16_000, Refusal::MARK),
+        (&edited(2, b'l'), 16_000, Refusal::MARK),
+        (&SECTION[..6], 16_000, Refusal::LENGTH),
+        (&edited(3, 2), 16_000, Refusal::VERSION),
+        (&too_many, 16_000, Refusal::COUNT),
+        (&SECTION[..SECTION.len() - 1], 16_000, Refusal::LENGTH),
+        (SECTION, 8 * 306 - 1, Refusal::ROOM),
+        (SECTION, 0, Refusal::ROOM),
     ];
-    for (bytes, room, number) in cases {
+    for (bytes, room, refusal) in cases {
         let mut patterns = vec![MARKED; room];
-        assert_eq!(hatch::read_patterns(bytes, &mut patterns), Err(number));
+        assert_eq!(hatch::read_patterns(bytes, &mut patterns), Err(refusal));
         assert!(patterns.iter().all(|&x| x == MARKED));
 
         let mut floats = vec![f32::from_bits(MARKED); room];
-        assert_eq!(hatch::read_floats(bytes, &mut floats), Err(number));
+        assert_eq!(hatch::read_floats(bytes, &mut floats), Err(refusal));
         assert!(floats.iter().all(|x| x.to_bits() == MARKED));
-        if number != ROOM {
+        if refusal != Refusal::ROOM {
             let mut out = [0; 100];
             let length = hatch::report(bytes, &mut out);
-            assert_eq!(out[..length], *format!("refused {number}\n").as_bytes());
+            assert_eq!(out[..length], *format!("refused {}\n", refusal.number()).as_bytes());
         }
     }
 }

@@ -38,7 +38,9 @@ pub struct BoxAnswer {
 #[repr(C)]
 pub struct IntervalAnswer {
     pub status: u32,
+    // Where it begins.
     pub tmin: f32,
+    // Where it ends.
     pub tmax: f32,
 }
 
@@ -46,9 +48,13 @@ pub struct IntervalAnswer {
 #[repr(C)]
 pub struct PixelsAnswer {
     pub status: u32,
+    // The first column.
     pub x0: usize,
+    // The first row.
     pub y0: usize,
+    // The column after the last.
     pub x1: usize,
+    // The row after the last.
     pub y1: usize,
 }
 

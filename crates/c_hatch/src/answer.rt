@@ -7,7 +7,9 @@ ghost use Rattle.c_hatch.specs.Answer.{ofRead};
 #[repr(C)]
 pub struct ReadAnswer {
     pub status: u32,
+    // The version.
     pub version: usize,
+    // The number of records.
     pub count: usize,
 }
 

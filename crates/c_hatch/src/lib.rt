@@ -39,12 +39,8 @@ pub extern "C" fn bgz_hatch_read_floats(bytes: &[u8], out: &mut [f32]) -> ReadAn
     crate::answer::read(hatch_read::read_floats(bytes, out))
 }
 
-// Reads a hatch list into `floats` as `hatch::read_floats` does, clips each record as a line, and reports as text: "HSL", version
-// and count; then for each record a line with its place from 1 and "miss", or "hit" with tmin and tmax as eight hexadecimal digits of
-// their bits, any zero as 00000000. Fields stand one space apart, and a line ends in a line feed. For a list that is refused the text is
-// "refused" and the number, and `floats` stays as it is.
-// Writes the text to the start of `out`, with no NUL after it, and answers how many bytes it wrote; what has no room is left out.
-// Example: "HSL\1\0\0\0", [], [0; 8] gives 8 and leaves "HSL 1 0\n".
+// How many records a list of floats has, eight floats each; an incomplete last one does not count.
+// Example: [0, 0, 4, 2, 6, -1, -1, 1, 0] gives 1.
 #[no_mangle]
 pub extern "C" fn bgz_hatch_record_count(floats: &[f32]) -> usize
     ensures { λ r. ⌜ r ≡ recordCountOf (now (floats .entry)) ⌝ }
@@ -52,6 +48,12 @@ pub extern "C" fn bgz_hatch_record_count(floats: &[f32]) -> usize
     hatch_read::record_count(floats)
 }
 
+// The report on a hatch list, as text: each record clipped as a line. "HSL", version and count; then for each record a line with its
+// place from 1 and "miss", or "hit" with tmin and tmax as eight hexadecimal digits of their bits, any zero as 00000000. Fields stand
+// one space apart, and a line ends in a line feed. For a list that `hatch::read_floats` refuses, whatever the room, the text is
+// "refused" and the number.
+// Writes as much of the text as `out` has room for to its start, with no NUL after it, and answers the bytes of the whole text.
+// Example: "HSL\1\0\0\0", [0; 8] gives 8 and leaves "HSL 1 0\n".
 #[no_mangle]
 pub extern "C" fn bgz_hatch_report(bytes: &[u8], out: &mut [u8]) -> usize
     ensures answers { λ r. ⌜ r ≡ length (reportOf (now (bytes .entry))) ⌝ }

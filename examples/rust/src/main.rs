@@ -6,13 +6,10 @@
 //! BAGNOSZYK_STATICLIB=PREFIX/lib cargo run -- ../section.hsl
 //! ```
 
-use bagnoszyk::shapes::{Aabb2, Vec2};
-use bagnoszyk::{aabb, aabb2, edge2, hatch};
+use bagnoszyk::limits::HATCH_FLOATS_MAX;
+use bagnoszyk::{Aabb2, Interval, Refusal, Vec2, aabb, aabb2, edge2, hatch};
 use std::process::ExitCode;
 use std::{env, fs};
-
-/// The longest hatch list has 2,000 records.
-const FLOATS: usize = 8 * 2000;
 
 /// A hatch line, and the box of the face that it fills.
 struct Line {
@@ -28,7 +25,7 @@ impl Line {
         Line { face, origin: Vec2 { x, y }, direction: Vec2 { x: dx, y: dy } }
     }
 
-    fn clip(&self) -> Option<(f32, f32)> {
+    fn clip(&self) -> Option<Interval> {
         aabb::intersections_against_line(self.face, self.origin, self.direction)
     }
 
@@ -51,7 +48,7 @@ impl Line {
 /// The ends of the first line that does more than touch its box.
 fn print_first(kind: &str, lines: &[&Line]) {
     let found = lines.iter().find_map(|line| {
-        let (tmin, tmax) = line.clip()?;
+        let Interval { tmin, tmax } = line.clip()?;
         (tmin < tmax).then(|| (line.point_at(tmin), line.point_at(tmax)))
     });
     if let Some((from, to)) = found {
@@ -74,9 +71,8 @@ fn print_list(what: &str, list: &[u32]) {
     println!("{what}: {}", entries.join(" "));
 }
 
-/// The error is the number of a refusal.
-fn run(bytes: &[u8]) -> Result<(), u32> {
-    let mut floats = vec![0.0; FLOATS];
+fn run(bytes: &[u8]) -> Result<(), Refusal> {
+    let mut floats = vec![0.0; HATCH_FLOATS_MAX];
     let records = hatch::read_floats(bytes, &mut floats)?;
     let (records, _) = floats[..8 * records.count].as_chunks();
     print_section(&records.iter().map(Line::new).collect::<Vec<_>>());
@@ -96,8 +92,8 @@ fn run(bytes: &[u8]) -> Result<(), u32> {
 
     // The same with a list that is one entry too short: the call is refused, and the list keeps its entries.
     let mut kept = [9; 5];
-    if let Err(number) = aabb2::overlapping_tiles(face, 16, 4, 3, &mut kept) {
-        println!("refusal: {number}");
+    if let Err(refusal) = aabb2::overlapping_tiles(face, 16, 4, 3, &mut kept) {
+        println!("refusal: {}", refusal.number());
     }
     print_list("list", &kept);
     Ok(())
@@ -108,8 +104,8 @@ fn main() -> ExitCode {
         eprintln!("usage: section FILE");
         return ExitCode::from(2);
     };
-    if let Err(number) = run(&bytes) {
-        eprintln!("refused {number}");
+    if let Err(refusal) = run(&bytes) {
+        eprintln!("refused {}: {refusal}", refusal.number());
         return ExitCode::FAILURE;
     }
     ExitCode::SUCCESS

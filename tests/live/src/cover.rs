@@ -54,7 +54,7 @@ fn check(corners: [f32; 4], size: usize, sides: [usize; 2], places: &[f32]) -> R
     let mut list = vec![0; sides[0] * sides[1]];
     let listed = overlapping_tiles(corners.into(), size, sides[0], sides[1], &mut list)
         .map(|count| list[..count].to_vec())
-        .map_err(|refusal| format!("{corners:?} size {size} sides {sides:?}: refused {refusal}"))?;
+        .map_err(|refusal| format!("{corners:?} size {size} sides {sides:?}: {refusal}"))?;
     let columns = owners(corners[0], corners[2], size, sides[0], places);
     let rows = owners(corners[1], corners[3], size, sides[1], places);
     // By row, then by column: the numbers rise.

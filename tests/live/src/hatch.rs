@@ -2,7 +2,7 @@
 
 use crate::inputs::Source;
 use crate::random::Random;
-use bagnoszyk::hatch;
+use bagnoszyk::{Refusal, hatch};
 use del_geo_core::aabb;
 use hatch_list::Records;
 use std::fmt::Write;
@@ -66,8 +66,8 @@ fn make(random: &mut Random) -> Input {
 }
 
 /// What the library answers where this was read.
-fn answer(read: &Read) -> Result<hatch::Records, u32> {
-    let told = |r: &Records| hatch::Records { version: r.version, count: r.count };
+fn answer(read: &Read) -> Result<bagnoszyk::Read, u32> {
+    let told = |r: &Records| bagnoszyk::Read { version: r.version, count: r.count };
     read.as_ref().map(told).map_err(|number| *number)
 }
 
@@ -81,7 +81,8 @@ fn list(read: &Read, room: usize) -> Vec<u32> {
 
 fn patterns_agree(file: &[u8], room: usize, read: &Read) -> bool {
     let mut out = vec![MARKED; room];
-    hatch::read_patterns(file, &mut out) == answer(read) && out == list(read, room)
+    let told = hatch::read_patterns(file, &mut out).map_err(Refusal::number);
+    told == answer(read) && out == list(read, room)
 }
 
 /// A NaN may have any bits.
@@ -89,7 +90,8 @@ fn floats_agree(file: &[u8], room: usize, read: &Read) -> bool {
     let mut out = vec![f32::from_bits(MARKED); room];
     let same =
         |(x, bits): (&f32, u32)| x.to_bits() == bits || x.is_nan() && f32::from_bits(bits).is_nan();
-    hatch::read_floats(file, &mut out) == answer(read) && out.iter().zip(list(read, room)).all(same)
+    let told = hatch::read_floats(file, &mut out).map_err(Refusal::number);
+    told == answer(read) && out.iter().zip(list(read, room)).all(same)
 }
 
 /// The report has no list to read into: a list as long as the file holds its floats.

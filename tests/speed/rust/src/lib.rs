@@ -54,17 +54,17 @@ pub unsafe extern "C" fn overlapping_tiles(
 
 #[inline(never)]
 pub extern "C" fn is_intersect_obb2(a: Obb2, b: Obb2) -> bool {
-    a.0.is_intersect_obb2(&b.0)
+    <[f32; 6]>::from(a).is_intersect_obb2(&b.into())
 }
 
 #[inline(never)]
 pub extern "C" fn is_intersect_aabb2(o: Obb2, b: Aabb2) -> bool {
-    o.0.is_intersect_aabb2(&b.into())
+    <[f32; 6]>::from(o).is_intersect_aabb2(&b.into())
 }
 
 #[inline(never)]
 pub extern "C" fn obb2_nearest_point2(o: Obb2, p: Vec2) -> PointAnswer {
-    PointAnswer { status: ANSWERED, value: o.0.nearest_point2(&p.into()).into() }
+    PointAnswer { status: ANSWERED, value: <[f32; 6]>::from(o).nearest_point2(&p.into()).into() }
 }
 
 #[inline(never)]

@@ -3,8 +3,7 @@
 use super::{Sized, calls};
 use crate::measure::Case;
 use crate::random::{Random, between, point};
-use bagnoszyk::shapes::{Aabb2, Vec2};
-use bagnoszyk::{aabb, hatch};
+use bagnoszyk::{Aabb2, Interval, Vec2, aabb, hatch};
 use std::cell::RefCell;
 
 /// The most records that a file may have.
@@ -62,11 +61,11 @@ fn rust((bytes, floats): &File) -> f32 {
 }
 
 /// The length, in the lines' own parameter, of all that is inside.
-fn clipped(floats: &[f32], clip: impl Fn(Aabb2, Vec2, Vec2) -> Option<(f32, f32)>) -> f32 {
+fn clipped(floats: &[f32], clip: impl Fn(Aabb2, Vec2, Vec2) -> Option<Interval>) -> f32 {
     let (records, _) = floats.as_chunks();
     let inside = |&[min_x, min_y, max_x, max_y, x, y, dx, dy]: &[f32; 8]| {
         let b = Aabb2 { min_x, min_y, max_x, max_y };
-        clip(b, Vec2 { x, y }, Vec2 { x: dx, y: dy }).map_or(0.0, |(tmin, tmax)| tmax - tmin)
+        clip(b, Vec2 { x, y }, Vec2 { x: dx, y: dy }).map_or(0.0, |t| t.tmax - t.tmin)
     };
     records.iter().map(inside).sum()
 }

@@ -43,7 +43,7 @@ pub fn turned(random: &mut Random, spread: i64) -> Obb2 {
     let (centre, u, v) =
         (point(random, -spread, spread), point(random, -1, 1), point(random, -1, 1));
     let share = (u.x * v.x + u.y * v.y) / (u.x * u.x + u.y * u.y);
-    Obb2([centre.x, centre.y, u.x, u.y, v.x - share * u.x, v.y - share * u.y])
+    Obb2::from([centre.x, centre.y, u.x, u.y, v.x - share * u.x, v.y - share * u.y])
 }
 
 fn upright(random: &mut Random, spread: i64) -> Aabb2 {

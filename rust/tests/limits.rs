@@ -1,0 +1,68 @@
+//! The limits: each is taken, and one more is refused; what is written at most is what the longest hatch list makes.
+
+use bagnoszyk::limits::*;
+use bagnoszyk::{Aabb2, Refusal, Vec2, aabb2, edge2, hatch};
+
+const UNIT: Aabb2 = Aabb2 { min_x: 0.0, min_y: 0.0, max_x: 1.0, max_y: 1.0 };
+
+fn stroke(width: usize, height: usize, far: f32) -> Result<usize, Refusal> {
+    let (p0, p1) = (Vec2 { x: 0.5, y: 0.5 }, Vec2 { x: far, y: 0.5 });
+    edge2::overlapping_pixels_dda(width, height, p0, p1, &mut vec![0; STROKE_ENTRIES_MAX])
+}
+
+fn tiles(far: f32, size: usize, width: usize, height: usize) -> Result<usize, Refusal> {
+    let b = Aabb2 { max_x: far, ..UNIT };
+    aabb2::overlapping_tiles(b, size, width, height, &mut [0; IMAGE_SIDE_MAX])
+}
+
+/// A hatch list of records that hit, the float 1 at each of their eight places.
+fn list(count: usize) -> Vec<u8> {
+    let mut bytes = b"HSL\x01\0".to_vec();
+    bytes.extend((count as u16).to_le_bytes());
+    bytes.extend([1_f32.to_le_bytes(); 8].concat().repeat(count));
+    bytes
+}
+
+#[test]
+fn sides_of_an_image() {
+    let above = IMAGE_SIDE_MAX + 1;
+    assert!(aabb2::rasterize(UNIT, IMAGE_SIDE_MAX, IMAGE_SIDE_MAX).is_ok());
+    assert_eq!(aabb2::rasterize(UNIT, above, 1), Err(Refusal::SIZE));
+    assert_eq!(aabb2::rasterize(UNIT, 1, above), Err(Refusal::SIZE));
+    assert!(stroke(IMAGE_SIDE_MAX, IMAGE_SIDE_MAX, 2.0).is_ok());
+    assert_eq!(stroke(above, 1, 2.0), Err(Refusal::SIZE));
+    assert_eq!(stroke(1, above, 2.0), Err(Refusal::SIZE));
+    assert!(tiles(1.0, 1, IMAGE_SIDE_MAX, IMAGE_SIDE_MAX).is_ok());
+    assert_eq!(tiles(1.0, 1, above, 1), Err(Refusal::SIZE));
+    assert_eq!(tiles(1.0, 1, 1, above), Err(Refusal::SIZE));
+}
+
+#[test]
+fn coordinates() {
+    let longest = stroke(IMAGE_SIDE_MAX, 1, STROKE_COORDINATE_MAX).unwrap();
+    assert!(longest <= STROKE_ENTRIES_MAX);
+    assert_eq!(stroke(8, 8, STROKE_COORDINATE_MAX.next_up()), Err(Refusal::COORDINATE));
+    assert!(tiles(TILE_COORDINATE_MAX, TILE_SIZE_MAX, 8, 8).is_ok());
+    assert_eq!(tiles(TILE_COORDINATE_MAX.next_up(), 1, 8, 8), Err(Refusal::COORDINATE));
+}
+
+#[test]
+fn sizes_of_a_tile() {
+    assert!(tiles(1.0, TILE_SIZE_MAX, 8, 8).is_ok());
+    assert_eq!(tiles(1.0, TILE_SIZE_MAX + 1, 8, 8), Err(Refusal::SIZE));
+    assert_eq!(tiles(1.0, 0, 8, 8), Err(Refusal::SIZE));
+}
+
+#[test]
+fn the_longest_hatch_list() {
+    let (longest, longer) = (list(HATCH_RECORDS_MAX), list(HATCH_RECORDS_MAX + 1));
+    assert_eq!(longest.len(), HATCH_BYTES_MAX);
+    let mut floats = vec![0.0; HATCH_FLOATS_MAX];
+    assert_eq!(hatch::read_floats(&longest, &mut floats).unwrap().count, HATCH_RECORDS_MAX);
+    assert_eq!(hatch::read_floats(&longest, &mut floats[1..]), Err(Refusal::ROOM));
+    assert_eq!(hatch::read_floats(&longer, &mut floats), Err(Refusal::COUNT));
+
+    let mut out = vec![0; HATCH_REPORT_MAX + 1];
+    assert_eq!(hatch::report(&longest, &mut floats, &mut out), HATCH_REPORT_MAX);
+    assert_eq!(out[HATCH_REPORT_MAX], 0);
+}
