@@ -556,6 +556,21 @@ bgz_aabb2 bgz_aabb2_scale(bgz_aabb2 b, float s);
 bgz_aabb2 bgz_aabb2_translate(bgz_aabb2 b, bgz_vec2 t);
 
 /*
+ * The tiles that b overlaps, on a sheet of shape_width by shape_height square tiles of side size: columns from
+ * floor(min_x / size) up to and with floor(max_x / size), rows likewise, each quotient rounded; those off the sheet are
+ * skipped. A tile's number is row * shape_width + column. A box reversed in x has a column only if both ends lie in it,
+ * and likewise a row in y. A side of the shape may be 0. Where the box is not reversed and each of its coordinates is
+ * zero or at least 2^-100 in size, the tiles are the smallest set of the sheet's tiles that covers it.
+ * Writes the numbers, rising, to the start of out and answers how many; 0 is an answer too.
+ * Refused: BGZ_REFUSED_SIZE if size is 0 or above 4,096, or shape_width or shape_height is above 16,384;
+ * BGZ_REFUSED_COORDINATE if a coordinate of b is not finite or is above 1,048,576 in size; BGZ_REFUSED_ROOM if out is
+ * shorter than the tiles.
+ * Example: (5, 5, 25, 12), 10, 4, 4, [0; 8] gives 6 and leaves [0, 1, 2, 4, 5, 6, 0, 0].
+ */
+bgz_count_answer bgz_aabb2_overlapping_tiles(bgz_aabb2 b, size_t size, size_t shape_width, size_t shape_height, uint32_t
+                                             *out, size_t out_length);
+
+/*
  * How many whole boxes a flat list has: its length / 4, rounded down. Each box is min_x, min_y, max_x, max_y.
  * Example: [0, 0, 1, 1, 2] gives 1.
  */
@@ -575,20 +590,6 @@ bgz_box_answer bgz_aabb2_from_aabbs(const float *all, size_t all_length, size_t 
  */
 bgz_box_answer bgz_aabb2_from_slice(const float *s, size_t s_length);
 
-/*
- * The tiles that b overlaps, on a sheet of shape_width by shape_height square tiles of side size: columns from
- * floor(min_x / size) up to and with floor(max_x / size), rows likewise, each quotient rounded; those off the sheet are
- * skipped. A tile's number is row * shape_width + column. A box reversed in x has a column only if both ends lie in it,
- * and likewise a row in y. A side of the shape may be 0.
- * Writes the numbers, rising, to the start of out and answers how many; 0 is an answer too.
- * Refused: BGZ_REFUSED_SIZE if size is 0 or above 4,096, or shape_width or shape_height is above 16,384;
- * BGZ_REFUSED_COORDINATE if a coordinate of b is not finite or is above 1,048,576 in size; BGZ_REFUSED_ROOM if out is
- * shorter than the tiles.
- * Example: (5, 5, 25, 12), 10, 4, 4, [0; 8] gives 6 and leaves [0, 1, 2, 4, 5, 6, 0, 0].
- */
-bgz_count_answer bgz_aabb2_overlapping_tiles(bgz_aabb2 b, size_t size, size_t shape_width, size_t shape_height, uint32_t
-                                             *out, size_t out_length);
-
 /* ---- obb2: Turned boxes. */
 
 /*
@@ -598,7 +599,7 @@ bgz_count_answer bgz_aabb2_overlapping_tiles(bgz_aabb2 b, size_t size, size_t sh
 bgz_corners bgz_obb2_corner_points(bgz_obb2 o);
 
 /*
- * Whether p is in o, edges included, by its dot products with u and v. A product that is a NaN counts as inside, so a
+ * Whether p is in o, edges included, by its dot products with u and v. A product that is a NaN counts as inside, and a
  * half edge of length 0 does not bound its direction.
  * Example: (0, 0, 2, 0, 0, 1), (1, 1) gives true.
  */
@@ -613,33 +614,26 @@ bool bgz_obb2_is_include_point2(bgz_obb2 o, bgz_vec2 p);
 bgz_point_answer bgz_obb2_nearest_point2(bgz_obb2 o, bgz_vec2 p);
 
 /*
- * Whether a turned and an upright box meet: no if on some axis (x, y, and those across u and v) the computed
- * projections of the corners of one lie strictly below those of the other. Projections whose computed ends are equal
+ * Whether two turned boxes meet: no exactly if on some axis across a half edge of a or of b the computed projections of
+ * the corners of one lie strictly below those of the other. Ranges whose computed ends are equal overlap; rounding
+ * parts some boxes that touch. The order of a and b does not matter.
+ * Example: (0, 0, 1, 0, 0, 1), (3, 0, 1, 0, 0, 1) gives false.
+ */
+bool bgz_obb2_is_intersect_obb2(bgz_obb2 a, bgz_obb2 b);
+
+/*
+ * Whether a turned and an upright box meet: no exactly if on some axis (x, y, and those across u and v) the computed
+ * projections of the corners of one lie strictly below those of the other. Ranges whose computed ends are equal
  * overlap; rounding parts some boxes that touch.
  * Example: (0, 0, 1, 1, -1, 1), (1, 1, 3, 3) gives true.
  */
 bool bgz_obb2_is_intersect_aabb2(bgz_obb2 o, bgz_aabb2 b);
 
 /*
- * Whether two turned boxes meet, as above, on the axes across the half edges of a and of b. The order of a and b does
- * not matter.
- * Example: (0, 0, 1, 0, 0, 1), (3, 0, 1, 0, 0, 1) gives false.
- */
-bool bgz_obb2_is_intersect_obb2(bgz_obb2 a, bgz_obb2 b);
-
-/*
  * ---- hatch: Hatch lists, and the report on one. The bytes of a hatch list are "HSL", a 16-bit version, which is 1, a
  * 16-bit count n of at most 2,000, and n records of eight floats: box (min_x, min_y, max_x, max_y), origin (x, y),
  * direction (x, y). Little-endian; 7 + 32 n bytes in all.
  */
-
-/*
- * bgz_hatch_read_floats with each float as its bits, so that a NaN keeps them.
- * Writes the 8 * count patterns to the start of out and answers version and count.
- * Refused: as there.
- * Example: "HSL\1\0\0\0", [] gives (1, 0).
- */
-bgz_read_answer bgz_hatch_read_patterns(const void *bytes, size_t bytes_length, uint32_t *out, size_t out_length);
 
 /*
  * Reads the floats of the records of a hatch list. A float may have any bits; every NaN is read as a NaN of any bits.
@@ -652,6 +646,14 @@ bgz_read_answer bgz_hatch_read_patterns(const void *bytes, size_t bytes_length, 
 bgz_read_answer bgz_hatch_read_floats(const void *bytes, size_t bytes_length, float *out, size_t out_length);
 
 /*
+ * bgz_hatch_read_floats with each float as its bits, so that a NaN keeps them.
+ * Writes the 8 * count patterns to the start of out and answers version and count.
+ * Refused: as there.
+ * Example: "HSL\1\0\0\0", [] gives (1, 0).
+ */
+bgz_read_answer bgz_hatch_read_patterns(const void *bytes, size_t bytes_length, uint32_t *out, size_t out_length);
+
+/*
  * How many records a list of floats has, eight floats each; an incomplete last one does not count.
  * Example: [0, 0, 4, 2, 6, -1, -1, 1, 0] gives 1.
  */
@@ -660,8 +662,8 @@ size_t bgz_hatch_record_count(const float *floats, size_t floats_length);
 /*
  * The report on a hatch list, as text: each record clipped as a line. "HSL", version and count; then for each record a
  * line with its place from 1 and "miss", or "hit" with tmin and tmax as eight hexadecimal digits of their bits, any
- * zero as 00000000. Fields stand one space apart, and a line ends in a line feed. For a list that bgz_hatch_read_floats
- * refuses, whatever the room, the text is "refused" and the number.
+ * zero as 00000000. Fields stand one space apart, and a line ends in a line feed. For bytes that are no hatch list the
+ * text is "refused" and the number that bgz_hatch_read_floats gives.
  * Writes as much of the text as out has room for to its start, with no NUL after it, and answers the bytes of the whole
  * text.
  * Example: "HSL\1\0\0\0", [0; 8] gives 8 and leaves "HSL 1 0\n".

@@ -173,15 +173,6 @@ mod raw {
         #[link_name = "bgz_aabb2_nearest_point2"]
         pub safe fn nearest_point2(b: Aabb2, p: Vec2) -> PointAnswer;
 
-        #[link_name = "bgz_aabb2_count"]
-        pub fn count(all: *const f32, all_length: usize) -> usize;
-
-        #[link_name = "bgz_aabb2_from_aabbs"]
-        pub fn from_aabbs(all: *const f32, all_length: usize, index: usize) -> BoxAnswer;
-
-        #[link_name = "bgz_aabb2_from_slice"]
-        pub fn from_slice(s: *const f32, s_length: usize) -> BoxAnswer;
-
         #[link_name = "bgz_aabb2_overlapping_tiles"]
         pub fn overlapping_tiles(
             b: Aabb2,
@@ -191,6 +182,15 @@ mod raw {
             out: *mut u32,
             out_length: usize,
         ) -> CountAnswer;
+
+        #[link_name = "bgz_aabb2_count"]
+        pub fn count(all: *const f32, all_length: usize) -> usize;
+
+        #[link_name = "bgz_aabb2_from_aabbs"]
+        pub fn from_aabbs(all: *const f32, all_length: usize, index: usize) -> BoxAnswer;
+
+        #[link_name = "bgz_aabb2_from_slice"]
+        pub fn from_slice(s: *const f32, s_length: usize) -> BoxAnswer;
     }
 }
 
@@ -319,6 +319,47 @@ pub fn nearest_point2(b: Aabb2, p: Vec2) -> Result<Vec2, Refusal> {
     raw::nearest_point2(b, p).result()
 }
 
+/// The tiles that `b` overlaps, on a sheet of `shape_width` by `shape_height` square tiles of side
+/// `size`: columns from floor(min_x / `size`) up to and with floor(max_x / `size`), rows likewise,
+/// each quotient rounded; those off the sheet are skipped. A tile's number is row * `shape_width` +
+/// column. A box reversed in x has a column only if both ends lie in it, and likewise a row in y. A
+/// side of the shape may be 0. Where the box is not reversed and each of its coordinates is zero or
+/// at least 2^-100 in size, the tiles are the smallest set of the sheet's tiles that covers it.
+///
+/// Writes the numbers, rising, to the start of `out` and answers how many; 0 is an answer too.
+///
+/// # Errors
+///
+/// [[`Refusal::SIZE`](crate::Refusal::SIZE)] if `size` is 0 or above 4,096, or `shape_width` or
+/// `shape_height` is above 16,384; [[`Refusal::COORDINATE`](crate::Refusal::COORDINATE)] if a
+/// coordinate of `b` is not finite or is above 1,048,576 in size;
+/// [[`Refusal::ROOM`](crate::Refusal::ROOM)] if `out` is shorter than the tiles.
+///
+/// # Example
+///
+/// ```
+/// use bagnoszyk::{Aabb2, aabb2};
+///
+/// let b = Aabb2::from([5.0, 5.0, 25.0, 12.0]);
+/// let mut out: [u32; 8] = [0; 8];
+/// assert_eq!(aabb2::overlapping_tiles(b, 10, 4, 4, &mut out), Ok(6));
+/// assert_eq!(out, [0, 1, 2, 4, 5, 6, 0, 0]);
+/// ```
+#[inline]
+pub fn overlapping_tiles(
+    b: Aabb2,
+    size: usize,
+    shape_width: usize,
+    shape_height: usize,
+    out: &mut [u32],
+) -> Result<usize, Refusal> {
+    let a = unsafe {
+        // SAFETY: each list is lent for the call alone, by its start and its length.
+        raw::overlapping_tiles(b, size, shape_width, shape_height, out.as_mut_ptr(), out.len())
+    };
+    a.result()
+}
+
 /// How many whole boxes a flat list has: its length / 4, rounded down. Each box is min_x, min_y,
 /// max_x, max_y.
 ///
@@ -378,46 +419,6 @@ pub fn from_slice(s: &[f32]) -> Result<Aabb2, Refusal> {
     let a = unsafe {
         // SAFETY: each list is lent for the call alone, by its start and its length.
         raw::from_slice(s.as_ptr(), s.len())
-    };
-    a.result()
-}
-
-/// The tiles that `b` overlaps, on a sheet of `shape_width` by `shape_height` square tiles of side
-/// `size`: columns from floor(min_x / `size`) up to and with floor(max_x / `size`), rows likewise,
-/// each quotient rounded; those off the sheet are skipped. A tile's number is row * `shape_width` +
-/// column. A box reversed in x has a column only if both ends lie in it, and likewise a row in y. A
-/// side of the shape may be 0.
-///
-/// Writes the numbers, rising, to the start of `out` and answers how many; 0 is an answer too.
-///
-/// # Errors
-///
-/// [[`Refusal::SIZE`](crate::Refusal::SIZE)] if `size` is 0 or above 4,096, or `shape_width` or
-/// `shape_height` is above 16,384; [[`Refusal::COORDINATE`](crate::Refusal::COORDINATE)] if a
-/// coordinate of `b` is not finite or is above 1,048,576 in size;
-/// [[`Refusal::ROOM`](crate::Refusal::ROOM)] if `out` is shorter than the tiles.
-///
-/// # Example
-///
-/// ```
-/// use bagnoszyk::{Aabb2, aabb2};
-///
-/// let b = Aabb2::from([5.0, 5.0, 25.0, 12.0]);
-/// let mut out: [u32; 8] = [0; 8];
-/// assert_eq!(aabb2::overlapping_tiles(b, 10, 4, 4, &mut out), Ok(6));
-/// assert_eq!(out, [0, 1, 2, 4, 5, 6, 0, 0]);
-/// ```
-#[inline]
-pub fn overlapping_tiles(
-    b: Aabb2,
-    size: usize,
-    shape_width: usize,
-    shape_height: usize,
-    out: &mut [u32],
-) -> Result<usize, Refusal> {
-    let a = unsafe {
-        // SAFETY: each list is lent for the call alone, by its start and its length.
-        raw::overlapping_tiles(b, size, shape_width, shape_height, out.as_mut_ptr(), out.len())
     };
     a.result()
 }

@@ -11,19 +11,19 @@ mod raw {
     use crate::answers::*;
 
     unsafe extern "C" {
-        #[link_name = "bgz_hatch_read_patterns"]
-        pub fn read_patterns(
-            bytes: *const u8,
-            bytes_length: usize,
-            out: *mut u32,
-            out_length: usize,
-        ) -> ReadAnswer;
-
         #[link_name = "bgz_hatch_read_floats"]
         pub fn read_floats(
             bytes: *const u8,
             bytes_length: usize,
             out: *mut f32,
+            out_length: usize,
+        ) -> ReadAnswer;
+
+        #[link_name = "bgz_hatch_read_patterns"]
+        pub fn read_patterns(
+            bytes: *const u8,
+            bytes_length: usize,
+            out: *mut u32,
             out_length: usize,
         ) -> ReadAnswer;
 
@@ -38,32 +38,6 @@ mod raw {
             out_length: usize,
         ) -> usize;
     }
-}
-
-/// [`hatch::read_floats`](crate::hatch::read_floats) with each float as its bits, so that a NaN
-/// keeps them.
-///
-/// Writes the 8 * count patterns to the start of `out` and answers version and count.
-///
-/// # Errors
-///
-/// as there.
-///
-/// # Example
-///
-/// ```
-/// use bagnoszyk::{Read, hatch};
-///
-/// let mut out: [u32; 0] = [];
-/// assert_eq!(hatch::read_patterns(b"HSL\x01\0\0\0", &mut out), Ok(Read { version: 1, count: 0 }));
-/// ```
-#[inline]
-pub fn read_patterns(bytes: &[u8], out: &mut [u32]) -> Result<Read, Refusal> {
-    let a = unsafe {
-        // SAFETY: each list is lent for the call alone, by its start and its length.
-        raw::read_patterns(bytes.as_ptr(), bytes.len(), out.as_mut_ptr(), out.len())
-    };
-    a.result()
 }
 
 /// Reads the floats of the records of a hatch list. A float may have any bits; every NaN is read as
@@ -97,6 +71,32 @@ pub fn read_floats(bytes: &[u8], out: &mut [f32]) -> Result<Read, Refusal> {
     a.result()
 }
 
+/// [`hatch::read_floats`](crate::hatch::read_floats) with each float as its bits, so that a NaN
+/// keeps them.
+///
+/// Writes the 8 * count patterns to the start of `out` and answers version and count.
+///
+/// # Errors
+///
+/// as there.
+///
+/// # Example
+///
+/// ```
+/// use bagnoszyk::{Read, hatch};
+///
+/// let mut out: [u32; 0] = [];
+/// assert_eq!(hatch::read_patterns(b"HSL\x01\0\0\0", &mut out), Ok(Read { version: 1, count: 0 }));
+/// ```
+#[inline]
+pub fn read_patterns(bytes: &[u8], out: &mut [u32]) -> Result<Read, Refusal> {
+    let a = unsafe {
+        // SAFETY: each list is lent for the call alone, by its start and its length.
+        raw::read_patterns(bytes.as_ptr(), bytes.len(), out.as_mut_ptr(), out.len())
+    };
+    a.result()
+}
+
 /// How many records a list of floats has, eight floats each; an incomplete last one does not count.
 ///
 /// # Example
@@ -117,8 +117,8 @@ pub fn record_count(floats: &[f32]) -> usize {
 /// The report on a hatch list, as text: each record clipped as a line. "HSL", version and count;
 /// then for each record a line with its place from 1 and "miss", or "hit" with tmin and tmax as
 /// eight hexadecimal digits of their bits, any zero as 00000000. Fields stand one space apart, and
-/// a line ends in a line feed. For a list that [`hatch::read_floats`](crate::hatch::read_floats)
-/// refuses, whatever the room, the text is "refused" and the number.
+/// a line ends in a line feed. For bytes that are no hatch list the text is "refused" and the
+/// number that [`hatch::read_floats`](crate::hatch::read_floats) gives.
 ///
 /// Writes as much of the text as `out` has room for to its start, with no NUL after it, and answers
 /// the bytes of the whole text.

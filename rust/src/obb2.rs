@@ -20,7 +20,7 @@ unsafe extern "C" {
     pub safe fn corner_points(o: Obb2) -> Corners;
 
     /// Whether `p` is in `o`, edges included, by its dot products with u and v. A product that is a
-    /// NaN counts as inside, so a half edge of length 0 does not bound its direction.
+    /// NaN counts as inside, and a half edge of length 0 does not bound its direction.
     ///
     /// # Example
     ///
@@ -34,24 +34,10 @@ unsafe extern "C" {
     #[link_name = "bgz_obb2_is_include_point2"]
     pub safe fn is_include_point2(o: Obb2, p: Vec2) -> bool;
 
-    /// Whether a turned and an upright box meet: no if on some axis (x, y, and those across u and
-    /// v) the computed projections of the corners of one lie strictly below those of the other.
-    /// Projections whose computed ends are equal overlap; rounding parts some boxes that touch.
-    ///
-    /// # Example
-    ///
-    /// ```
-    /// use bagnoszyk::{Aabb2, Obb2, obb2};
-    ///
-    /// let o = Obb2::from([0.0, 0.0, 1.0, 1.0, -1.0, 1.0]);
-    /// let b = Aabb2::from([1.0, 1.0, 3.0, 3.0]);
-    /// assert_eq!(obb2::is_intersect_aabb2(o, b), true);
-    /// ```
-    #[link_name = "bgz_obb2_is_intersect_aabb2"]
-    pub safe fn is_intersect_aabb2(o: Obb2, b: Aabb2) -> bool;
-
-    /// Whether two turned boxes meet, as above, on the axes across the half edges of `a` and of
-    /// `b`. The order of `a` and `b` does not matter.
+    /// Whether two turned boxes meet: no exactly if on some axis across a half edge of `a` or of
+    /// `b` the computed projections of the corners of one lie strictly below those of the other.
+    /// Ranges whose computed ends are equal overlap; rounding parts some boxes that touch. The
+    /// order of `a` and `b` does not matter.
     ///
     /// # Example
     ///
@@ -64,6 +50,22 @@ unsafe extern "C" {
     /// ```
     #[link_name = "bgz_obb2_is_intersect_obb2"]
     pub safe fn is_intersect_obb2(a: Obb2, b: Obb2) -> bool;
+
+    /// Whether a turned and an upright box meet: no exactly if on some axis (x, y, and those across
+    /// u and v) the computed projections of the corners of one lie strictly below those of the
+    /// other. Ranges whose computed ends are equal overlap; rounding parts some boxes that touch.
+    ///
+    /// # Example
+    ///
+    /// ```
+    /// use bagnoszyk::{Aabb2, Obb2, obb2};
+    ///
+    /// let o = Obb2::from([0.0, 0.0, 1.0, 1.0, -1.0, 1.0]);
+    /// let b = Aabb2::from([1.0, 1.0, 3.0, 3.0]);
+    /// assert_eq!(obb2::is_intersect_aabb2(o, b), true);
+    /// ```
+    #[link_name = "bgz_obb2_is_intersect_aabb2"]
+    pub safe fn is_intersect_aabb2(o: Obb2, b: Aabb2) -> bool;
 }
 
 mod raw {

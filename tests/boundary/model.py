@@ -74,6 +74,7 @@ class Function:
     parameters: tuple
     result: str
     enum: str  # what the result stands for, by the contract: a name of `Model.enums`, or nothing
+    routine: str  # what it calls, as crate::routine
 
     @property
     def module(self):
@@ -142,10 +143,12 @@ def named(text):
 
 
 def functions_of(source):
-    pattern = COMMENT + r'#\[no_mangle\]\npub extern "C" fn (\w+)\(([^)]*)\) -> (\w+)\n(.*?)^\{'
-    for comment, symbol, parameters, result, contract in re.findall(pattern, source, re.S | re.M):
+    pattern = COMMENT + r'#\[no_mangle\]\npub extern "C" fn (\w+)\(([^)]*)\) -> (\w+)\n(.*?)^\{(.*?)^\}'
+    for comment, symbol, parameters, result, contract, body in re.findall(pattern, source, re.S | re.M):
         enum = re.search(r"r ≡ of([A-Z]\w*)", contract)
-        yield Function(symbol, comment_of(comment), named(parameters), result, enum[1] if enum else "")
+        # The innermost call: what is around it only turns an answer into a struct.
+        routine = re.findall(r"\w+::\w+(?=\()", body)[-1]
+        yield Function(symbol, comment_of(comment), named(parameters), result, enum[1] if enum else "", routine)
 
 
 def structs_of(source):

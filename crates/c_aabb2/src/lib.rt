@@ -173,6 +173,29 @@ pub extern "C" fn bgz_aabb2_translate(b: Aabb2, t: Vec2) -> Aabb2
     aabb2::translate(b, t)
 }
 
+// The tiles that `b` overlaps, on a sheet of `shape_width` by `shape_height` square tiles of side `size`: columns from
+// floor(min_x / `size`) up to and with floor(max_x / `size`), rows likewise, each quotient rounded; those off the sheet are skipped.
+// A tile's number is row * `shape_width` + column. A box reversed in x has a column only if both ends lie in it, and likewise a row
+// in y. A side of the shape may be 0. Where the box is not reversed and each of its coordinates is zero or at least 2^-100 in size, the
+// tiles are the smallest set of the sheet's tiles that covers it.
+// Writes the numbers, rising, to the start of `out` and answers how many; 0 is an answer too.
+// Refused: `SIZE` if `size` is 0 or above 4,096, or `shape_width` or `shape_height` is above 16,384; `COORDINATE` if a coordinate
+// of `b` is not finite or is above 1,048,576 in size; `ROOM` if `out` is shorter than the tiles.
+// Example: (5, 5, 25, 12), 10, 4, 4, [0; 8] gives 6 and leaves [0, 1, 2, 4, 5, 6, 0, 0].
+#[no_mangle]
+pub extern "C" fn bgz_aabb2_overlapping_tiles(
+    b: Aabb2,
+    size: usize,
+    shape_width: usize,
+    shape_height: usize,
+    out: &mut [u32],
+) -> CountAnswer
+    ensures answers { λ r. ⌜ r ≡ ofListed (overlappingTilesOf (sheet size «shape_width» «shape_height») b (length (now (out .entry)))) ⌝ }
+    ensures promises { λ r. ⌜ Promise (sheet size «shape_width» «shape_height») b (now (out .entry)) (overlappingTilesOf (sheet size «shape_width» «shape_height») b (length (now (out .entry)))) (now (out .exit)) ⌝ }
+{
+    c_answers::listed(tiles::overlapping_tiles(b, size, shape_width, shape_height, out))
+}
+
 // How many whole boxes a flat list has: its length / 4, rounded down. Each box is min_x, min_y, max_x, max_y.
 // Example: [0, 0, 1, 1, 2] gives 1.
 #[no_mangle]
@@ -200,26 +223,4 @@ pub extern "C" fn bgz_aabb2_from_slice(s: &[f32]) -> BoxAnswer
     ensures { λ r. ⌜ r ≡ ofBoxed (fromAabbsOf (now (s .entry)) 0) ⌝ }
 {
     c_answers::boxed(aabb2_view::from_slice(s))
-}
-
-// The tiles that `b` overlaps, on a sheet of `shape_width` by `shape_height` square tiles of side `size`: columns from
-// floor(min_x / `size`) up to and with floor(max_x / `size`), rows likewise, each quotient rounded; those off the sheet are skipped.
-// A tile's number is row * `shape_width` + column. A box reversed in x has a column only if both ends lie in it, and likewise a row
-// in y. A side of the shape may be 0.
-// Writes the numbers, rising, to the start of `out` and answers how many; 0 is an answer too.
-// Refused: `SIZE` if `size` is 0 or above 4,096, or `shape_width` or `shape_height` is above 16,384; `COORDINATE` if a coordinate
-// of `b` is not finite or is above 1,048,576 in size; `ROOM` if `out` is shorter than the tiles.
-// Example: (5, 5, 25, 12), 10, 4, 4, [0; 8] gives 6 and leaves [0, 1, 2, 4, 5, 6, 0, 0].
-#[no_mangle]
-pub extern "C" fn bgz_aabb2_overlapping_tiles(
-    b: Aabb2,
-    size: usize,
-    shape_width: usize,
-    shape_height: usize,
-    out: &mut [u32],
-) -> CountAnswer
-    ensures answers { λ r. ⌜ r ≡ ofListed (overlappingTilesOf (sheet size «shape_width» «shape_height») b (length (now (out .entry)))) ⌝ }
-    ensures promises { λ r. ⌜ Promise (sheet size «shape_width» «shape_height») b (now (out .entry)) (overlappingTilesOf (sheet size «shape_width» «shape_height») b (length (now (out .entry)))) (now (out .exit)) ⌝ }
-{
-    c_answers::listed(tiles::overlapping_tiles(b, size, shape_width, shape_height, out))
 }

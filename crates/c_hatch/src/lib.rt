@@ -14,18 +14,6 @@ ghost use Rattle.hatch_read.specs.Read.{recordCountOf, decodeInto, itself, read
 ghost use Rattle.report.specs.Report.{reportOf};
 ghost use Rattle.c_hatch.specs.Answer.{ofRead};
 
-// `hatch::read_floats` with each float as its bits, so that a NaN keeps them.
-// Writes the 8 * count patterns to the start of `out` and answers version and count.
-// Refused: as there.
-// Example: "HSL\1\0\0\0", [] gives (1, 0).
-#[no_mangle]
-pub extern "C" fn bgz_hatch_read_patterns(bytes: &[u8], out: &mut [u32]) -> ReadAnswer
-    ensures answers { λ r. ⌜ r ≡ ofRead (readOf (decodeInto hsl rows (length (now (out .entry))) (now (bytes .entry)))) ⌝ }
-    ensures leaves { λ r. ⌜ now (out .exit) ≡ listOf itself (decodeInto hsl rows (length (now (out .entry))) (now (bytes .entry))) (now (out .entry)) ⌝ }
-{
-    crate::answer::read(hatch_read::read_patterns(bytes, out))
-}
-
 // Reads the floats of the records of a hatch list. A float may have any bits; every NaN is read as a NaN of any bits.
 // Writes the 8 * count floats to the start of `out` and answers version and count.
 // Refused: `MARK` if the bytes do not begin with "HSL"; `LENGTH` if they are fewer than 7; `VERSION` if the version is not 1;
@@ -39,6 +27,18 @@ pub extern "C" fn bgz_hatch_read_floats(bytes: &[u8], out: &mut [f32]) -> ReadAn
     crate::answer::read(hatch_read::read_floats(bytes, out))
 }
 
+// `hatch::read_floats` with each float as its bits, so that a NaN keeps them.
+// Writes the 8 * count patterns to the start of `out` and answers version and count.
+// Refused: as there.
+// Example: "HSL\1\0\0\0", [] gives (1, 0).
+#[no_mangle]
+pub extern "C" fn bgz_hatch_read_patterns(bytes: &[u8], out: &mut [u32]) -> ReadAnswer
+    ensures answers { λ r. ⌜ r ≡ ofRead (readOf (decodeInto hsl rows (length (now (out .entry))) (now (bytes .entry)))) ⌝ }
+    ensures leaves { λ r. ⌜ now (out .exit) ≡ listOf itself (decodeInto hsl rows (length (now (out .entry))) (now (bytes .entry))) (now (out .entry)) ⌝ }
+{
+    crate::answer::read(hatch_read::read_patterns(bytes, out))
+}
+
 // How many records a list of floats has, eight floats each; an incomplete last one does not count.
 // Example: [0, 0, 4, 2, 6, -1, -1, 1, 0] gives 1.
 #[no_mangle]
@@ -50,8 +50,8 @@ pub extern "C" fn bgz_hatch_record_count(floats: &[f32]) -> usize
 
 // The report on a hatch list, as text: each record clipped as a line. "HSL", version and count; then for each record a line with its
 // place from 1 and "miss", or "hit" with tmin and tmax as eight hexadecimal digits of their bits, any zero as 00000000. Fields stand
-// one space apart, and a line ends in a line feed. For a list that `hatch::read_floats` refuses, whatever the room, the text is
-// "refused" and the number.
+// one space apart, and a line ends in a line feed. For bytes that are no hatch list the text is "refused" and the number that
+// `hatch::read_floats` gives.
 // Writes as much of the text as `out` has room for to its start, with no NUL after it, and answers the bytes of the whole text.
 // Example: "HSL\1\0\0\0", [0; 8] gives 8 and leaves "HSL 1 0\n".
 #[no_mangle]

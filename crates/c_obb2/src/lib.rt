@@ -18,7 +18,7 @@ pub extern "C" fn bgz_obb2_corner_points(o: Obb2) -> Corners
     obb2::corner_points(o)
 }
 
-// Whether `p` is in `o`, edges included, by its dot products with u and v. A product that is a NaN counts as inside, so a half edge
+// Whether `p` is in `o`, edges included, by its dot products with u and v. A product that is a NaN counts as inside, and a half edge
 // of length 0 does not bound its direction.
 // Example: (0, 0, 2, 0, 0, 1), (1, 1) gives true.
 #[no_mangle]
