@@ -34,6 +34,10 @@ class Type:
             return Type(lent[2] or lent[3], True, bool(lent[1]), bool(lent[2]))
         return Type(re.fullmatch(r"\w+", text)[0])
 
+    def __str__(self):
+        """As the sources write it."""
+        return f"{('&mut ' if self.mutable else '&') if self.lent else ''}{f'[{self.name}]' if self.list else self.name}"
+
 
 @dataclasses.dataclass(frozen=True)
 class Comment:

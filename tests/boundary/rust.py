@@ -73,9 +73,7 @@ def is_direct(f, model):
 
 
 def safe_parameter(p):
-    t = p.type
-    name = f"[{t.name}]" if t.list else t.name
-    return f"{p.name}: {('&mut ' if t.mutable else '&') if t.lent else ''}{name}"
+    return f"{p.name}: {p.type}"
 
 
 def raw_parameters(p):
