@@ -190,17 +190,17 @@ typedef struct bgz_box_answer {
 /* The stretch of a line or a ray in a box, by the parameters t of its two ends: the points origin + t * direction. */
 typedef struct bgz_interval_answer {
     uint32_t status;
-    float tmin; /* Where it begins. */
-    float tmax; /* Where it ends. */
+    float tmin;       /* Where it begins. */
+    float tmax;       /* Where it ends. */
 } bgz_interval_answer;
 
 /* Columns from x0 up to and without x1, rows from y0 up to and without y1. */
 typedef struct bgz_pixels_answer {
     uint32_t status;
-    size_t x0; /* The first column. */
-    size_t y0; /* The first row. */
-    size_t x1; /* The column after the last. */
-    size_t y1; /* The row after the last. */
+    size_t x0;        /* The first column. */
+    size_t y0;        /* The first row. */
+    size_t x1;        /* The column after the last. */
+    size_t y1;        /* The row after the last. */
 } bgz_pixels_answer;
 
 /* How many entries were written. */
@@ -212,8 +212,8 @@ typedef struct bgz_count_answer {
 /* The version of a hatch list, and how many records were read. */
 typedef struct bgz_read_answer {
     uint32_t status;
-    size_t version; /* The version. */
-    size_t count; /* The number of records. */
+    size_t version;   /* The version. */
+    size_t count;     /* The number of records. */
 } bgz_read_answer;
 
 /* ---- f32: Float helpers. */

@@ -63,6 +63,6 @@ fn the_longest_hatch_list() {
     assert_eq!(hatch::read_floats(&longer, &mut floats), Err(Refusal::COUNT));
 
     let mut out = vec![0; HATCH_REPORT_MAX + 1];
-    assert_eq!(hatch::report(&longest, &mut floats, &mut out), HATCH_REPORT_MAX);
+    assert_eq!(hatch::report(&longest, &mut out), HATCH_REPORT_MAX);
     assert_eq!(out[HATCH_REPORT_MAX], 0);
 }

@@ -60,8 +60,8 @@ def struct(s, model):
         yield from comment(paragraphs(s.comment), model)
     name = type_name(s.name)
     yield f"typedef struct {name} {{"
-    for field in s.fields:
-        yield f"    {type_name(field.type.name)} {field.name};" + (f" /* {field.comment} */" if field.comment else "")
+    rows = [(f"    {type_name(f.type.name)} {f.name};", f"/* {f.comment} */" if f.comment else "") for f in s.fields]
+    yield from (line.rstrip() for line in in_columns(rows))
     yield f"}} {name};"
 
 
