@@ -438,18 +438,18 @@ static void obb2_nearest_point2(const struct arguments *in, struct answer *out) 
     out->values[1].f = r.value.y;
 }
 
-static void obb2_is_intersect_aabb2(const struct arguments *in, struct answer *out) {
-    const float *f = in->floats;
-    out->status = BGZ_ANSWERED;
-    out->values[0].u = bgz_obb2_is_intersect_aabb2(
-        (bgz_obb2){f[0], f[1], f[2], f[3], f[4], f[5]}, (bgz_aabb2){f[6], f[7], f[8], f[9]});
-}
-
 static void obb2_is_intersect_obb2(const struct arguments *in, struct answer *out) {
     const float *f = in->floats;
     out->status = BGZ_ANSWERED;
     out->values[0].u = bgz_obb2_is_intersect_obb2(
         (bgz_obb2){f[0], f[1], f[2], f[3], f[4], f[5]}, (bgz_obb2){f[6], f[7], f[8], f[9], f[10], f[11]});
+}
+
+static void obb2_is_intersect_aabb2(const struct arguments *in, struct answer *out) {
+    const float *f = in->floats;
+    out->status = BGZ_ANSWERED;
+    out->values[0].u = bgz_obb2_is_intersect_aabb2(
+        (bgz_obb2){f[0], f[1], f[2], f[3], f[4], f[5]}, (bgz_aabb2){f[6], f[7], f[8], f[9]});
 }
 
 static void hatch_read_floats(const struct arguments *in, struct answer *out) {
@@ -592,10 +592,10 @@ const struct routine routines[] = {
      "o.cx o.cy o.ux o.uy o.vx o.vy p.x p.y"},
     {"obb2.nearest_point2", CALL(obb2_nearest_point2), "ffffffff", "", "ff",
      "o.cx o.cy o.ux o.uy o.vx o.vy p.x p.y"},
-    {"obb2.is_intersect_aabb2", CALL(obb2_is_intersect_aabb2), "ffffffffff", "", "u",
-     "o.cx o.cy o.ux o.uy o.vx o.vy b.min_x b.min_y b.max_x b.max_y"},
     {"obb2.is_intersect_obb2", CALL(obb2_is_intersect_obb2), "ffffffffffff", "", "u",
      "a.cx a.cy a.ux a.uy a.vx a.vy b.cx b.cy b.ux b.uy b.vx b.vy"},
+    {"obb2.is_intersect_aabb2", CALL(obb2_is_intersect_aabb2), "ffffffffff", "", "u",
+     "o.cx o.cy o.ux o.uy o.vx o.vy b.min_x b.min_y b.max_x b.max_y"},
     {NULL, CALL(hatch_read_floats), "rB", "fB", "uu",
      "room bytes"},
     {NULL, CALL(hatch_read_patterns), "rB", "uB", "uu",
