@@ -216,7 +216,7 @@ typedef struct bgz_read_answer {
     size_t count;     /* The number of records. */
 } bgz_read_answer;
 
-/* ---- f32: Float helpers. */
+/* ---- f32: float helpers. */
 
 /*
  * The absolute value: the sign is dropped, that of -0 too.
@@ -280,7 +280,7 @@ size_t bgz_f32_to_usize(float x);
  */
 float bgz_f32_sqrt(float x);
 
-/* ---- range: Ranges of numbers. */
+/* ---- range: ranges of numbers. */
 
 /*
  * The gap between two ranges. None if they touch or overlap.
@@ -297,7 +297,7 @@ bgz_float_answer bgz_range_distance_to_range(bgz_range a, bgz_range b);
  */
 bgz_float_answer bgz_range_intersection_length(bgz_range a, bgz_range b);
 
-/* ---- vec2: Points and vectors. */
+/* ---- vec2: points and vectors. */
 
 /*
  * a - b, by component.
@@ -323,7 +323,7 @@ float bgz_vec2_squared_length(bgz_vec2 p);
  */
 float bgz_vec2_length(bgz_vec2 p);
 
-/* ---- mat3: Transforms. */
+/* ---- mat3: transforms. */
 
 /*
  * The image of p: m times (p.x, p.y, 1), divided by its third component. None if that component, as computed, is a
@@ -332,7 +332,7 @@ float bgz_vec2_length(bgz_vec2 p);
  */
 bgz_point_answer bgz_mat3_transform_homogeneous(bgz_mat3 m, bgz_vec2 p);
 
-/* ---- edge2: Edges, and pen strokes along them. */
+/* ---- edge2: edges, and pen strokes along them. */
 
 /*
  * The length of the edge from s to e.
@@ -419,7 +419,7 @@ bgz_float_answer bgz_edge2_ink(bgz_vec2 s, bgz_vec2 e, bgz_aabb2 b);
 bgz_count_answer bgz_edge2_overlapping_pixels_dda(size_t width, size_t height, bgz_vec2 p0, bgz_vec2 p1, uint32_t *list,
                                                   size_t list_length);
 
-/* ---- aabb: Upright boxes: clipping lines, and what is inside. */
+/* ---- aabb: upright boxes: clipping lines, and what is inside. */
 
 /*
  * The stretch of the line origin + t * direction in the box b: tmin <= tmax, both finite. None if the line misses b;
@@ -447,7 +447,7 @@ bool bgz_aabb_is_include_point(bgz_aabb2 b, bgz_vec2 p);
  */
 bgz_vec2 bgz_aabb_center(bgz_aabb2 b);
 
-/* ---- aabb2: Upright boxes: making, changing and measuring them, their pixels and tiles, and flat lists of them. */
+/* ---- aabb2: upright boxes: making, changing and measuring them, their pixels and tiles, and flat lists of them. */
 
 /*
  * The box from p - radius to p + radius.
@@ -590,7 +590,7 @@ bgz_box_answer bgz_aabb2_from_aabbs(const float *all, size_t all_length, size_t 
  */
 bgz_box_answer bgz_aabb2_from_slice(const float *s, size_t s_length);
 
-/* ---- obb2: Turned boxes. */
+/* ---- obb2: turned boxes. */
 
 /*
  * c + u + v, c - u + v, c - u - v, c + u - v.
@@ -630,7 +630,7 @@ bool bgz_obb2_is_intersect_obb2(bgz_obb2 a, bgz_obb2 b);
 bool bgz_obb2_is_intersect_aabb2(bgz_obb2 o, bgz_aabb2 b);
 
 /*
- * ---- hatch: Hatch lists, and the report on one. The bytes of a hatch list are "HSL", a 16-bit version, which is 1, a
+ * ---- hatch: hatch lists, and the report on one. The bytes of a hatch list are "HSL", a 16-bit version, which is 1, a
  * 16-bit count n of at most 2,000, and n records of eight floats: box (min_x, min_y, max_x, max_y), origin (x, y),
  * direction (x, y). Little-endian; 7 + 32 n bytes in all.
  */
@@ -648,7 +648,7 @@ bgz_read_answer bgz_hatch_read_floats(const void *bytes, size_t bytes_length, fl
 /*
  * bgz_hatch_read_floats with each float as its bits, so that a NaN keeps them.
  * Writes the 8 * count patterns to the start of out and answers version and count.
- * Refused: as there.
+ * Refused: as bgz_hatch_read_floats is.
  * Example: "HSL\1\0\0\0", [] gives (1, 0).
  */
 bgz_read_answer bgz_hatch_read_patterns(const void *bytes, size_t bytes_length, uint32_t *out, size_t out_length);

@@ -99,7 +99,9 @@ impl BoxAnswer {
 #[repr(C)]
 pub struct IntervalAnswer {
     pub status: u32,
+    /// Where it begins.
     pub tmin: f32,
+    /// Where it ends.
     pub tmax: f32,
 }
 
@@ -114,9 +116,13 @@ impl IntervalAnswer {
 #[repr(C)]
 pub struct PixelsAnswer {
     pub status: u32,
+    /// The first column.
     pub x0: usize,
+    /// The first row.
     pub y0: usize,
+    /// The column after the last.
     pub x1: usize,
+    /// The row after the last.
     pub y1: usize,
 }
 
@@ -145,7 +151,9 @@ impl CountAnswer {
 #[repr(C)]
 pub struct ReadAnswer {
     pub status: u32,
+    /// The version.
     pub version: usize,
+    /// The number of records.
     pub count: usize,
 }
 

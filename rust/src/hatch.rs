@@ -78,7 +78,7 @@ pub fn read_floats(bytes: &[u8], out: &mut [f32]) -> Result<Read, Refusal> {
 ///
 /// # Errors
 ///
-/// as there.
+/// as [`hatch::read_floats`](crate::hatch::read_floats) is.
 ///
 /// # Example
 ///

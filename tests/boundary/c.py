@@ -103,7 +103,7 @@ def limits():
 
 def functions(model):
     for module, about in model.modules.items():
-        yield from comment([f"---- {module}: {about}"], model)
+        yield from comment([f"---- {module}: {about[0].lower()}{about[1:]}"], model)
         for f in model.functions:
             if f.module == module:
                 yield ""

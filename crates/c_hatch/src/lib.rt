@@ -29,7 +29,7 @@ pub extern "C" fn bgz_hatch_read_floats(bytes: &[u8], out: &mut [f32]) -> ReadAn
 
 // `hatch::read_floats` with each float as its bits, so that a NaN keeps them.
 // Writes the 8 * count patterns to the start of `out` and answers version and count.
-// Refused: as there.
+// Refused: as `hatch::read_floats` is.
 // Example: "HSL\1\0\0\0", [] gives (1, 0).
 #[no_mangle]
 pub extern "C" fn bgz_hatch_read_patterns(bytes: &[u8], out: &mut [u32]) -> ReadAnswer

@@ -1,0 +1,42 @@
+"""Comments, names and types of the Rust wrapper."""
+
+import re
+import textwrap
+
+WIDTH = 100
+
+
+def origin(path):
+    return [f"//! Written by tests/generate from {path}: change that, and run it."]
+
+
+def text_of(text, model):
+    """A comment's text, with links to functions and refusals."""
+    for refusal in model.refusals:
+        text = text.replace(f"`{refusal.name}`", f"[`Refusal::{refusal.name}`]")
+    return re.sub(r"`(\w+::\w+)`", r"[`\1`](crate::\1)", text)
+
+
+def comment(text, model, indent=0, mark="///"):
+    for line in textwrap.wrap(text_of(text, model), WIDTH - indent - 4, break_long_words=False, break_on_hyphens=False):
+        yield f"{' ' * indent}{mark} {line}"
+
+
+def answer_name(struct):
+    return struct.name.removesuffix("Answer")
+
+
+def value_type(struct):
+    """What an answer of the C ABI holds beside its status."""
+    fields = struct.answered
+    return fields[0].type.name if len(fields) == 1 else answer_name(struct)
+
+
+def converted(t, kind):
+    """What an answer is in Rust: the value, perhaps none, perhaps refused."""
+    t = f"Option<{t}>" if kind.none else t
+    return f"Result<{t}, Refusal>" if kind.refused else t
+
+
+def conversion(kind):
+    return {(True, False): "option", (False, True): "result", (True, True): "result_of_option"}[kind.none, kind.refused]
