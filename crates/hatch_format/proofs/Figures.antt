@@ -2,18 +2,18 @@
 use mathlib.Core.Path.{_≡_, refl}
 use mathlib.Core.List.{List, [], _∷_, _++_, map}
 use Prim.Native.Nat.{ℕ}
-use lib.ListN.{replicate}
+use lib.ListN.{replicate, take}
 use Rattle.lists.specs.Places.{upto}
 use Rattle.hatch_format.specs.Bytes.{startsWith}
 use Rattle.hatch_format.specs.Format.{hsl, rows, layoutOf, sizedOf, versionedOf, headOf}
 use Rattle.hatch_format.specs.Decode.{Answer, refused, accepted, bodyOf, decode}
 
 -- a header, by the low and the high byte of version and count
-abbrev pub head : ℕ → ℕ → ℕ → ℕ → List ℕ
-head v v′ n n′ = 72 ∷ 83 ∷ 76 ∷ v ∷ v′ ∷ n ∷ n′ ∷ []
+abbrev head : ℕ → ℕ → ℕ → ℕ → List ℕ
+head v v′ n n′ = hsl ++ (v ∷ v′ ∷ n ∷ n′ ∷ [])
 
 -- a file with one record, whose bytes are 1, 2, 3, 4 over and over
-abbrev pub word : List ℕ
+abbrev word : List ℕ
 word = 1 ∷ 2 ∷ 3 ∷ 4 ∷ []
 
 abbrev pub single : List ℕ
@@ -26,12 +26,12 @@ record Figure : Type 0 where
 figures : List Figure
 figures =
     record { bytes = []; answer = refused 10 }
-    ∷ record { bytes = 72 ∷ 83 ∷ []; answer = refused 10 }
+    ∷ record { bytes = take 2 hsl; answer = refused 10 }
     -- `HSE` and a byte
-    ∷ record { bytes = 72 ∷ 83 ∷ 69 ∷ 1 ∷ []; answer = refused 10 }
-    ∷ record { bytes = 72 ∷ 83 ∷ 76 ∷ []; answer = refused 13 }
+    ∷ record { bytes = take 2 hsl ++ (69 ∷ 1 ∷ []); answer = refused 10 }
+    ∷ record { bytes = hsl; answer = refused 13 }
     -- too short comes before a version that there is not
-    ∷ record { bytes = 72 ∷ 83 ∷ 76 ∷ 2 ∷ 0 ∷ 0 ∷ []; answer = refused 13 }
+    ∷ record { bytes = hsl ++ (2 ∷ 0 ∷ 0 ∷ []); answer = refused 13 }
     ∷ record { bytes = head 2 0 0 0; answer = refused 11 }
     ∷ record { bytes = head 1 1 0 0; answer = refused 11 }
     -- the version comes before the count of 2,001, and that before the length

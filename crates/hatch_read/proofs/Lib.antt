@@ -1,3 +1,4 @@
 pub mod Room
 pub mod Loading
 pub mod Reading
+pub mod Figures
