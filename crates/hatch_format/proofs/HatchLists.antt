@@ -22,18 +22,19 @@ pub accepts : Accepts
 unfolding decode bodyOf layoutOf
 accepts b n h =
     ap (λ (x : Head). bodyOf x b)
-    (file-accepted hsl rows b one n (record { marked = h .mark; row = ap (layoutOf rows) (h .version); count = h .count; few = h .few; whole = h .whole }))
+    (file-accepted hsl rows b one n (record { marked = h .mark; row = ap (layoutOf rows) (h .version); count = h .count; few = omega (arith, h .few); whole = h .whole }))
 
 only : (b : List ℕ) (r : Row) (n : ℕ) → headOf hsl rows b ≡ Accepted r n → HatchList b n
 unfolding Each
 only b r n e =
     let f = accepted-file hsl rows b r n e in
     let x = found (λ (q : Row). q ≡ one) rows (halfAt b 3) r (refl, tt) (f .row) in
+    let limit : n ≤ 2000 = subst (λ (q : Row). n ≤ q .limit) (x .0) (f .few) in
     record {
       mark = f .marked;
       version = subst (λ (q : Row). halfAt b 3 ≡ q .version) (x .0) (let z : r .version ≡ halfAt b 3 = x .1 in cc);
       count = f .count;
-      few = subst (λ (q : Row). n ≤ q .limit) (x .0) (f .few);
+      few = omega (arith, limit);
       whole = f .whole ∙ ap (λ (q : Row). 7 + q .width * n) (x .0);
     }
 

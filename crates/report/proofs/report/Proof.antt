@@ -1,5 +1,6 @@
 -- `report::report` meets its contract: the text is that of what the file says. Assumes nothing.
 use mathlib.Core.Path.{sym, _∙_}
+use native.Mathlib.Omega.{arith}
 use borrow.Author.Needs.{needs}
 use Rattle.hatch_format.specs.Format.{hsl}
 use Rattle.hatch_format.proofs.Records.{held}
@@ -38,7 +39,8 @@ returns : tie.Need-returns
 returns c =
     let put = c .before .before in
     let refused = put .before .before .before in
-    reports _ _ _ _ (same (refusal _ (refused .before .before .head-of .ensures) (refused .number .given .1)) (put .put-refusal .ensures))
+    let told = reports _ _ _ _ (same (refusal _ (refused .before .before .head-of .ensures) (refused .number .given .1)) (put .put-refusal .ensures)) in
+    (told .0, (told .1 .0, omega (arith, told .1 .1)))
 
 same-length-2 : tie.Need-same-length-2
 same-length-2 c = search needs
@@ -48,8 +50,9 @@ returns-2 c =
     let lines = c .before .before in
     let opening = lines .before .before .before .before in
     let accepted = opening .before .before .before in
-    reports _ _ _ _
-    (same (records _ (accepted .before .before .head-of .ensures) (accepted .row .given .1)) (many _ _ (opening .put-opening .ensures) (lines .put-lines .ensures)))
+    let text = many _ _ (opening .put-opening .ensures) (lines .put-lines .ensures) in
+    let told = reports _ _ _ _ (same (records _ (accepted .before .before .head-of .ensures) (accepted .row .given .1)) text) in
+    (told .0, (told .1 .0, omega (arith, told .1 .1)))
 
 pub report-spec : {M : Type 1} → statement M
 report-spec =
