@@ -1,5 +1,5 @@
--- A walk with steps of 1 or -1 on one of its axes is outside its ranges after 131,074 steps: that coordinate has passed 65,537, where its range
--- ends at the latest. Assumes nothing.
+-- A walk with steps of 1 or -1 on one of its axes is outside its ranges after 131,074 steps: that coordinate has passed 65,537, and no range
+-- goes further. Assumes nothing.
 use mathlib.Core.Path.{_≡_, refl, sym, _∙_, subst}
 use mathlib.Core.Bool.{Bool, true, false, _&&_}
 use mathlib.Core.Logic.{_⊎_, inl, inr}
