@@ -5,15 +5,10 @@ use edge2::OnEdge;
 use types::Aabb2;
 use types::Vec2;
 ghost use mathlib.Core.Path.{_≡_};
-ghost use Prim.Native.Nat.{ℕ};
 ghost use lib.ListN.{length as entries};
 ghost use Rattle.c_answers.specs.Answers.{ofLength, ofListed};
-ghost use Rattle.types.specs.declared.answer.Listed.the-variants.{Count};
-ghost use Rattle.lists.specs.Lent.{leaves};
-ghost use Rattle.stroke.specs.Walk.{alongX, alongY};
-ghost use Rattle.stroke.specs.Stops.{Stops};
-ghost use Rattle.pixels.specs.Entries.{strokeOf};
 ghost use Rattle.pixels.specs.Answer.{overlappingPixelsDdaOf};
+ghost use Rattle.pixels.specs.Promise.{Promise};
 ghost use Rattle.edge2.specs.Measure.{lengthOf, squaredLengthOf, unitEdgeVectorOf, positionFromRatioOf, ratioFromPositionOf, cullingIntersectionOf};
 ghost use Rattle.edge2.specs.Nearest.{nearestOriginOf, nearestToPointOf};
 ghost use Rattle.edge2.specs.Ink.{intersectionLengthAgainstAabb2Of, inkOf};
@@ -139,8 +134,7 @@ pub extern "C" fn bgz_edge2_overlapping_pixels_dda(
     list: &mut [u32],
 ) -> CountAnswer
     ensures answers { λ r. ⌜ r ≡ ofListed (overlappingPixelsDdaOf width height p0 p1 (entries (now (list .entry)))) ⌝ }
-    ensures leaves { λ r. ⌜ now (list .exit) ≡ leaves (overlappingPixelsDdaOf width height p0 p1 (entries (now (list .entry)))) (strokeOf width height p0 p1) (now (list .entry)) ⌝ }
-    ensures stops { λ r. ⌜ ((n : ℕ) → overlappingPixelsDdaOf width height p0 p1 (entries (now (list .entry))) ≡ Count n → Stops (alongX p0 p1) (alongY p0 p1)) ⌝ }
+    ensures promises { λ r. ⌜ Promise width height p0 p1 (now (list .entry)) (overlappingPixelsDdaOf width height p0 p1 (entries (now (list .entry)))) (now (list .exit)) ⌝ }
 {
     c_answers::listed(pixels::overlapping_pixels_dda(width, height, p0, p1, list))
 }

@@ -22,7 +22,7 @@ use Rattle.stroke.proofs.Accepted.{Accepted, sized-x, sized-y}
 use Rattle.pixels.proofs.Writing.{closed-length}
 
 -- the entries es for the list l: what is answered, and the list afterwards
-abbrev Listing : List ℕ → List ℕ → Listed → List ℕ → Type 0
+abbrev pub Listing : List ℕ → List ℕ → Listed → List ℕ → Type 0
 Listing es l r l' = (r ≡ fitted es (length l)) × (l' ≡ leaves r es l)
 
 -- ---- the axes that the code has made are the stroke's

@@ -7,10 +7,10 @@ use lib.ListN.{length}
 use Rattle.types.specs.declared.shape.Vec2.{Vec2}
 use Rattle.stroke.specs.declared.axis.Axis.{Axis}
 use Rattle.stroke.specs.Walk.{position}
-use Rattle.stroke.specs.Image.{onImage}
+use Rattle.stroke.specs.Image.{onImage, oneIf}
 use Rattle.pixels.proofs.Lists.{entered-none, entered-more, entered-le, entered-few}
 use Rattle.stroke.specs.Steps.{first, next}
-use Rattle.pixels.specs.Post.{oneIf, entered}
+use Rattle.pixels.specs.Post.{entered}
 use Rattle.stroke.proofs.Walking.{first-is, next-is}
 
 -- p is position k, and n of the positions before are in the image

@@ -2,4 +2,6 @@ pub mod Lists
 pub mod Casts
 pub mod Counting
 pub mod Writing
+pub mod Sides
 pub mod Answers
+pub mod Promised

@@ -9,9 +9,9 @@ use Rattle.types.specs.declared.shape.Vec2.{Vec2}
 use Rattle.lists.specs.Places.{upto}
 use Rattle.stroke.specs.declared.axis.Axis.{Axis}
 use Rattle.stroke.specs.Walk.{position}
-use Rattle.stroke.specs.Image.{onImage}
+use Rattle.stroke.specs.Image.{onImage, oneIf}
 use Rattle.pixels.specs.Entries.{number, keepIf, kept, pixels}
-use Rattle.pixels.specs.Post.{oneIf, entered}
+use Rattle.pixels.specs.Post.{entered}
 
 -- ---- one position more
 

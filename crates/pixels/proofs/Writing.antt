@@ -15,12 +15,12 @@ use Rattle.rounded.proofs.Sizes.{size-wider}
 use Rattle.lists.specs.Lent.{written}
 use Rattle.lists.proofs.Fill.{store-next}
 use Rattle.stroke.specs.Walk.{at, position, mostSteps}
-use Rattle.stroke.specs.Image.{onImage}
+use Rattle.stroke.specs.Image.{onImage, oneIf}
 use Rattle.pixels.specs.Entries.{number, keepIf}
 use Rattle.stroke.proofs.Outside.{at-size}
 use Rattle.pixels.proofs.Lists.{entered-none, entered-suc, entered-more, entered-le}
 use Rattle.stroke.specs.Steps.{Sized, first, next}
-use Rattle.pixels.specs.Post.{oneIf, setIf, entered, Drawn, Bounded, Entered, closed, Closed}
+use Rattle.pixels.specs.Post.{setIf, entered, Drawn, Bounded, Entered, closed, Closed}
 use Rattle.pixels.proofs.Counting.{Counting, counting-none, counting-le, counting-more}
 
 -- a position of an accepted walk

@@ -1,3 +1,4 @@
 pub mod Entries
 pub mod Answer
+pub mod Promise
 pub mod Post

@@ -32,11 +32,6 @@ pub record Bounded (p : Vec2) : Type 0 where
 
 -- ---- what is handed on
 
--- how many a test lets in
-abbrev pub oneIf : Bool → ℕ
-oneIf true = 1
-oneIf false = 0
-
 -- a store that a test lets through
 abbrev pub setIf : Bool → List ℕ → ℕ → ℕ → List ℕ
 setIf true l n v = set l n v

@@ -6,16 +6,14 @@ use types::Listed;
 use types::Vec2;
 ghost use mathlib.Core.Path.{_≡_};
 ghost use mathlib.Core.Bool.{true};
-ghost use Prim.Native.Nat.{ℕ, _+_, _≤_, _<_};
+ghost use Prim.Native.Nat.{_+_, _≤_, _<_};
 ghost use lib.ListN.{length};
-ghost use Rattle.types.specs.declared.answer.Listed.the-variants.{Count};
 ghost use Rattle.lists.specs.Lent.{fitted, leaves};
-ghost use Rattle.stroke.specs.Walk.{mostSteps, alongX, alongY};
-ghost use Rattle.stroke.specs.Stops.{Stops};
-ghost use Rattle.stroke.specs.Image.{inSides};
-ghost use Rattle.pixels.specs.Entries.{number, entries, strokeOf};
-ghost use Rattle.pixels.specs.Answer.{overlappingPixelsDdaOf};
-ghost use Rattle.pixels.specs.Post.{Drawn, Bounded, oneIf, setIf, entered, Measures, Entered, Closed};
+ghost use Rattle.stroke.specs.Walk.{mostSteps};
+ghost use Rattle.stroke.specs.Image.{inSides, oneIf};
+ghost use Rattle.pixels.specs.Entries.{number, entries};
+ghost use Rattle.pixels.specs.Promise.{Promise};
+ghost use Rattle.pixels.specs.Post.{Drawn, Bounded, setIf, entered, Measures, Entered, Closed};
 
 fn one_if(t: bool) -> usize
     ensures { λ r. ⌜ r ≡ oneIf t ⌝ }
@@ -145,9 +143,7 @@ pub fn overlapping_pixels_dda(
     p1: Vec2,
     list: &mut [u32],
 ) -> Listed
-    ensures answers { λ r. ⌜ r ≡ overlappingPixelsDdaOf width height p0 p1 (length (now (list .entry))) ⌝ }
-    ensures leaves { λ r. ⌜ now (list .exit) ≡ leaves r (strokeOf width height p0 p1) (now (list .entry)) ⌝ }
-    ensures stops { λ r. ⌜ ((n : ℕ) → r ≡ Count n → Stops (alongX p0 p1) (alongY p0 p1)) ⌝ }
+    ensures { λ r. ⌜ Promise width height p0 p1 (now (list .entry)) r (now (list .exit)) ⌝ }
 {
     if stroke::sides_too_large(width, height) {
         return Listed::Refused(types::refusal::SIZE);

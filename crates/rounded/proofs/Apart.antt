@@ -53,7 +53,7 @@ nonzero-neg nan h = h
 nonzero-neg (inf s) h = h
 nonzero-neg (fin s m e) h = h
 
-nonzero-round : (s : Bool) (a c : ℕ) → 0 < c → c ≤ a * 2 ^ 149 → NonZero (round binary32 s a c)
+pub nonzero-round : (s : Bool) (a c : ℕ) → 0 < c → c ≤ a * 2 ^ 149 → NonZero (round binary32 s a c)
 nonzero-round s a c p h = go s
   where
     plain : NonZero (round binary32 false a c)

@@ -3,3 +3,4 @@ pub mod Sizes
 pub mod Step
 pub mod Apart
 pub mod Slopes
+pub mod Down

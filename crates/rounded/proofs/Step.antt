@@ -27,6 +27,13 @@ Past j (inf t) = ⊥
 Past j (fin false m e) = j * down e ≤ base * down e + m * up e
 Past j (fin true m e) = j * down e + m * up e ≤ base * down e
 
+-- what is at least j is at least what is less
+pub past-less : (i j : ℕ) (x : Float) → i ≤ j → Past j x → Past i x
+past-less i j nan h p = p
+past-less i j (inf s) h p = p
+past-less i j (fin false m e) h p = let g : i * down e ≤ j * down e = mul-le-mul-right (down e) h in omega arith
+past-less i j (fin true m e) h p = let g : i * down e ≤ j * down e = mul-le-mul-right (down e) h in omega arith
+
 -- x is finite and at most k
 abbrev pub Under : ℕ → Float → Type 0
 Under k nan = ⊥

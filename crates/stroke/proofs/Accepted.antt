@@ -127,7 +127,7 @@ module _ {p q : Vec2} (w : Accepted p q) where
   pub sized-y : Sized (alongY p q)
   sized-y = axis-sized (stepOf p q) (p .y) (q .y) (w .y0 .size) (w .y1 .size) (slopes-of .second-size)
 
-  major : Major (alongX p q) ⊎ Major (alongY p q)
+  pub major : Major (alongX p q) ⊎ Major (alongY p q)
   unfolding axisOf
   major = slopes-of .major
 

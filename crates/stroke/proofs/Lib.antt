@@ -2,3 +2,4 @@ pub mod Outside
 pub mod Stops
 pub mod Accepted
 pub mod Walking
+pub mod Sides

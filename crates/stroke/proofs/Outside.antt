@@ -37,16 +37,20 @@ directed-size true k x h = neg-size k x h
 abbrev pub Major : Axis → Type 0
 Major a = (s : Bool) × (a .slope ≡ unit s)
 
-past-at : {a : Axis} → Sized a → (m : Major a) (k : ℕ) → k ≤ mostSteps → Past (65536 + k) (directed (m .0) (at a k))
+-- one step more
+pub past-next : {a : Axis} → Sized a → (m : Major a) (j k : ℕ) → k ≤ mostSteps → Past j (directed (m .0) (at a k)) → Past (suc j) (directed (m .0) (at a (suc k)))
 unfolding at
-past-at {a} z m zero h = past-of-size 65536 (directed (m .0) (a .start)) (omega arith) (directed-size (m .0) 65536 (a .start) (z .start-size))
-past-at {a} z m (suc k) h =
+past-next {a} z m j k h p =
     let s = m .0 in
+    let u = size-wider (65536 + k) 8388608 (at a k) (omega arith) (at-size z k h) in
+    subst (λ (d : Float). Past (suc j) (directed s (at a k ⊕ d))) (sym (m .1))
+    (step s j (at a k) p (under-of-size 8388608 (directed s (at a k)) (directed-size s 8388608 (at a k) u)))
+
+past-at : {a : Axis} → Sized a → (m : Major a) (k : ℕ) → k ≤ mostSteps → Past (65536 + k) (directed (m .0) (at a k))
+past-at {a} z m zero h = unfold at in past-of-size 65536 (directed (m .0) (a .start)) (omega arith) (directed-size (m .0) 65536 (a .start) (z .start-size))
+past-at {a} z m (suc k) h =
     let e : suc (65536 + k) ≡ 65536 + suc k = omega arith in
-    let u = size-wider (65536 + k) 8388608 (at a k) (omega arith) (at-size z k (omega arith)) in
-    subst (λ (d : Float). Past (65536 + suc k) (directed s (at a k ⊕ d))) (sym (m .1))
-    (subst (λ (j : ℕ). Past j (directed s (at a k ⊕ unit s))) e
-    (step s (65536 + k) (at a k) (past-at z m k (omega arith)) (under-of-size 8388608 (directed s (at a k)) (directed-size s 8388608 (at a k) u))))
+    subst (λ (j : ℕ). Past j (directed (m .0) (at a (suc k)))) e (past-next z m (65536 + k) k (omega arith) (past-at z m k (omega arith)))
 
 -- within its range it is at most 65,537 in the direction of its steps
 within-under : {a : Axis} → Sized a → (s : Bool) (j : ℕ) (x : Float) → Past j (directed s x) → within a x ≡ true → Under 65537 (directed s x)

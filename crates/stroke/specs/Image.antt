@@ -1,5 +1,5 @@
 -- The positions inside an image. Definitions only.
-use mathlib.Core.Bool.{Bool, _&&_}
+use mathlib.Core.Bool.{Bool, true, false, _&&_}
 use Prim.Native.Nat.{ℕ}
 use lib.IntN.{pos}
 use lib.Ieee.{Float, binary32, lt, le, ofInt}
@@ -17,3 +17,8 @@ inSides wide high p = onSide wide (p .x) && onSide high (p .y)
 -- in an image w by h
 abbrev pub onImage : ℕ → ℕ → Vec2 → Bool
 onImage w h p = inSides (ofInt binary32 (pos w)) (ofInt binary32 (pos h)) p
+
+-- how many positions a test lets in
+abbrev pub oneIf : Bool → ℕ
+oneIf true = 1
+oneIf false = 0

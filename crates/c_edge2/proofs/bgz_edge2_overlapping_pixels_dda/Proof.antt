@@ -17,7 +17,7 @@ same-length c = search needs
 returns : tie.Need-returns
 returns c =
     let told = c .before .before .before .overlapping-pixels-dda .ensures in
-    (c .listed .ensures ∙ ap ofListed (told .0), rw (told .0) at (told .1))
+    (c .listed .ensures ∙ ap ofListed (told .answers), rw (told .answers) at told)
 
 pub bgz-edge2-overlapping-pixels-dda-spec : {M : Type 1} → statement M
 bgz-edge2-overlapping-pixels-dda-spec =

@@ -8,7 +8,7 @@ use lib.Dec.{ltb}
 use Rattle.stroke.specs.Walk.{mostSteps}
 use Rattle.pixels.proofs.Lists.{one-le}
 use Rattle.stroke.specs.Steps.{stepsOn}
-use Rattle.pixels.specs.Post.{oneIf}
+use Rattle.stroke.specs.Image.{oneIf}
 use Rattle.pixels.proofs.Casts.{side-float}
 use Rattle.stroke.proofs.Walking.{Walking, walking-none, walking-few, walking-more, walking-end}
 use Rattle.pixels.proofs.Counting.{Counting, counting-none, counting-few, counting-more}

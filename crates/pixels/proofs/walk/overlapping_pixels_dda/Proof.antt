@@ -1,5 +1,5 @@
 -- `pixels::overlapping_pixels_dda` meets its contract: each refusal by the tests that led there, and else what the walk answers. Assumes nothing.
-use mathlib.Core.Path.{_≡_, refl, sym, ap, _∙_, subst}
+use mathlib.Core.Path.{_≡_, sym, ap, _∙_, subst}
 use mathlib.Core.Bool.{false}
 use Prim.Native.Nat.{ℕ}
 use borrow.Author.Needs.{needs}
@@ -8,13 +8,11 @@ use lib.Dec.{ltb, lit≤}
 use lib.Ieee.{Float}
 use Rattle.rounded.specs.Size.{Size}
 use Rattle.rounded.proofs.Sizes.{size-wider}
-use Rattle.lists.specs.Lent.{leaves}
-use Rattle.lists.proofs.Lent.{no-count}
 use Rattle.stroke.specs.Walk.{stepOf, axisOf}
 use Rattle.stroke.specs.Check.{sidesTooLarge, firstOffender, coordinates, sameEnds}
-use Rattle.pixels.specs.Answer.{overlappingPixelsDdaOf}
-use Rattle.stroke.proofs.Accepted.{AreFloats, Accepted, accepted, step-size, stroke-stops}
+use Rattle.stroke.proofs.Accepted.{AreFloats, Accepted, accepted, step-size}
 use Rattle.pixels.proofs.Answers.{Made, made-drawn, made-listing}
+use Rattle.pixels.proofs.Promised.{refused-sides, refused-coordinate, refused-same, walked}
 use Rattle.pixels.proofs.walk.overlapping_pixels_dda.Statement.{statement}
 use Rattle.pixels.proofs.walk.overlapping_pixels_dda.Tie as tie
 
@@ -55,24 +53,27 @@ sides-too-large-requires : tie.Need-sides-too-large-requires
 sides-too-large-requires c κs = search needs
 
 returns : tie.Need-returns
-unfolding overlappingPixelsDdaOf leaves
-returns c = rw (← c .before .sides-too-large .ensures, c .if1 .taken) (refl, (refl, no-count 4))
+returns c =
+    let s = c .before .before .before .args in
+    refused-sides (s .width) (s .height) (s .p0) (s .p1) (s .list .now) (sym (c .before .sides-too-large .ensures) ∙ c .if1 .taken)
 
 first-offender-requires : tie.Need-first-offender-requires
 first-offender-requires c κs = search needs
 
 returns-2 : tie.Need-returns-2
-unfolding overlappingPixelsDdaOf leaves
 returns-2 c =
-    rw (sides (c .before .before), ap (λ (n : ℕ). ltb n 4) (sym (c .before .first-offender .ensures)) ∙ lt-ltb _ _ (c .if2 .taken))
-    (refl, (refl, no-count 3))
+    let s = c .before .before .before .before .before .args in
+    refused-coordinate (s .width) (s .height) (s .p0) (s .p1) (s .list .now) (sides (c .before .before))
+    (ap (λ (n : ℕ). ltb n 4) (sym (c .before .first-offender .ensures)) ∙ lt-ltb _ _ (c .if2 .taken))
 
 same-ends-requires : tie.Need-same-ends-requires
 same-ends-requires c κs = search needs
 
 returns-3 : tie.Need-returns-3
-unfolding overlappingPixelsDdaOf leaves
-returns-3 c = rw (sides (c .before .before .before .before), fit (c .before .before), sym (c .before .same-ends .ensures) ∙ c .if3 .taken) (refl, (refl, no-count 2))
+returns-3 c =
+    let s = c .before .before .before .before .before .before .before .args in
+    refused-same (s .width) (s .height) (s .p0) (s .p1) (s .list .now) (sides (c .before .before .before .before)) (fit (c .before .before))
+    (sym (c .before .same-ends .ensures) ∙ c .if3 .taken)
 
 step-of-requires : tie.Need-step-of-requires
 step-of-requires c κs = search needs
@@ -103,13 +104,15 @@ same-length : tie.Need-same-length
 same-length c = search needs
 
 returns-4 : tie.Need-returns-4
-unfolding overlappingPixelsDdaOf
 returns-4 c =
     let v = c .before .before .before .before .before .before .before .before in
     let s = v .before .before .before .before .before .before .before .args in
+    let m = made (c .before .before .before .before .before) in
+    let d = made-drawn m (accepted-at v) (sides (v .before .before .before .before)) in
     let f = c .before .before .fill in
-    let l = made-listing (made (c .before .before .before .before .before)) (s .width) (s .height) (s .list .now) (f .result) (f .last .0) (f .ensures) in
-    rw (sides (v .before .before .before .before), fit (v .before .before), differ v) (l .0, (l .1, λ n z. stroke-stops (accepted-at v)))
+    walked (s .width) (s .height) (s .p0) (s .p1) (s .list .now) (sides (v .before .before .before .before)) (fit (v .before .before)) (differ v)
+    (accepted-at v) (d .wide) (d .high) (f .result) (f .last .0)
+    (made-listing m (s .width) (s .height) (s .list .now) (f .result) (f .last .0) (f .ensures))
 
 pub overlapping-pixels-dda-spec : {M : Type 1} → statement M
 overlapping-pixels-dda-spec =
