@@ -1,65 +1,75 @@
-/* Written by tests/ask/generate from the functions that the Rattle sources export: change those, and run it. */
+/* Written by tests/generate from the functions that the Rattle sources export. */
 #include "routines.h"
 #include "bagnoszyk.h"
 
 static void f32_abs(const struct arguments *in, struct answer *out) {
     const float *f = in->floats;
+    float r = bgz_f32_abs(f[0]);
     out->status = BGZ_ANSWERED;
-    out->values[0].f = bgz_f32_abs(f[0]);
+    out->values[0].f = r;
 }
 
 static void f32_min(const struct arguments *in, struct answer *out) {
     const float *f = in->floats;
+    float r = bgz_f32_min(f[0], f[1]);
     out->status = BGZ_ANSWERED;
-    out->values[0].f = bgz_f32_min(f[0], f[1]);
+    out->values[0].f = r;
 }
 
 static void f32_max(const struct arguments *in, struct answer *out) {
     const float *f = in->floats;
+    float r = bgz_f32_max(f[0], f[1]);
     out->status = BGZ_ANSWERED;
-    out->values[0].f = bgz_f32_max(f[0], f[1]);
+    out->values[0].f = r;
 }
 
 static void f32_clamp(const struct arguments *in, struct answer *out) {
     const float *f = in->floats;
+    float r = bgz_f32_clamp(f[0], f[1], f[2]);
     out->status = BGZ_ANSWERED;
-    out->values[0].f = bgz_f32_clamp(f[0], f[1], f[2]);
+    out->values[0].f = r;
 }
 
 static void f32_floor(const struct arguments *in, struct answer *out) {
     const float *f = in->floats;
+    float r = bgz_f32_floor(f[0]);
     out->status = BGZ_ANSWERED;
-    out->values[0].f = bgz_f32_floor(f[0]);
+    out->values[0].f = r;
 }
 
 static void f32_ceil(const struct arguments *in, struct answer *out) {
     const float *f = in->floats;
+    float r = bgz_f32_ceil(f[0]);
     out->status = BGZ_ANSWERED;
-    out->values[0].f = bgz_f32_ceil(f[0]);
+    out->values[0].f = r;
 }
 
 static void f32_to_i32(const struct arguments *in, struct answer *out) {
     const float *f = in->floats;
+    int32_t r = bgz_f32_to_i32(f[0]);
     out->status = BGZ_ANSWERED;
-    out->values[0].i = bgz_f32_to_i32(f[0]);
+    out->values[0].i = r;
 }
 
 static void f32_to_u32(const struct arguments *in, struct answer *out) {
     const float *f = in->floats;
+    uint32_t r = bgz_f32_to_u32(f[0]);
     out->status = BGZ_ANSWERED;
-    out->values[0].u = bgz_f32_to_u32(f[0]);
+    out->values[0].u = r;
 }
 
 static void f32_to_usize(const struct arguments *in, struct answer *out) {
     const float *f = in->floats;
+    size_t r = bgz_f32_to_usize(f[0]);
     out->status = BGZ_ANSWERED;
-    out->values[0].u = bgz_f32_to_usize(f[0]);
+    out->values[0].u = r;
 }
 
 static void f32_sqrt(const struct arguments *in, struct answer *out) {
     const float *f = in->floats;
+    float r = bgz_f32_sqrt(f[0]);
     out->status = BGZ_ANSWERED;
-    out->values[0].f = bgz_f32_sqrt(f[0]);
+    out->values[0].f = r;
 }
 
 static void range_distance_to_range(const struct arguments *in, struct answer *out) {
@@ -86,20 +96,23 @@ static void vec2_sub(const struct arguments *in, struct answer *out) {
 
 static void vec2_dot(const struct arguments *in, struct answer *out) {
     const float *f = in->floats;
+    float r = bgz_vec2_dot((bgz_vec2){f[0], f[1]}, (bgz_vec2){f[2], f[3]});
     out->status = BGZ_ANSWERED;
-    out->values[0].f = bgz_vec2_dot((bgz_vec2){f[0], f[1]}, (bgz_vec2){f[2], f[3]});
+    out->values[0].f = r;
 }
 
 static void vec2_squared_length(const struct arguments *in, struct answer *out) {
     const float *f = in->floats;
+    float r = bgz_vec2_squared_length((bgz_vec2){f[0], f[1]});
     out->status = BGZ_ANSWERED;
-    out->values[0].f = bgz_vec2_squared_length((bgz_vec2){f[0], f[1]});
+    out->values[0].f = r;
 }
 
 static void vec2_length(const struct arguments *in, struct answer *out) {
     const float *f = in->floats;
+    float r = bgz_vec2_length((bgz_vec2){f[0], f[1]});
     out->status = BGZ_ANSWERED;
-    out->values[0].f = bgz_vec2_length((bgz_vec2){f[0], f[1]});
+    out->values[0].f = r;
 }
 
 static void mat3_transform_homogeneous(const struct arguments *in, struct answer *out) {
@@ -113,14 +126,16 @@ static void mat3_transform_homogeneous(const struct arguments *in, struct answer
 
 static void edge2_length(const struct arguments *in, struct answer *out) {
     const float *f = in->floats;
+    float r = bgz_edge2_length((bgz_vec2){f[0], f[1]}, (bgz_vec2){f[2], f[3]});
     out->status = BGZ_ANSWERED;
-    out->values[0].f = bgz_edge2_length((bgz_vec2){f[0], f[1]}, (bgz_vec2){f[2], f[3]});
+    out->values[0].f = r;
 }
 
 static void edge2_squared_length(const struct arguments *in, struct answer *out) {
     const float *f = in->floats;
+    float r = bgz_edge2_squared_length((bgz_vec2){f[0], f[1]}, (bgz_vec2){f[2], f[3]});
     out->status = BGZ_ANSWERED;
-    out->values[0].f = bgz_edge2_squared_length((bgz_vec2){f[0], f[1]}, (bgz_vec2){f[2], f[3]});
+    out->values[0].f = r;
 }
 
 static void edge2_unit_edge_vector(const struct arguments *in, struct answer *out) {
@@ -141,16 +156,17 @@ static void edge2_position_from_ratio(const struct arguments *in, struct answer 
 
 static void edge2_ratio_from_position(const struct arguments *in, struct answer *out) {
     const float *f = in->floats;
+    float r = bgz_edge2_ratio_from_position((bgz_vec2){f[0], f[1]}, (bgz_vec2){f[2], f[3]}, (bgz_vec2){f[4], f[5]});
     out->status = BGZ_ANSWERED;
-    out->values[0].f = bgz_edge2_ratio_from_position(
-        (bgz_vec2){f[0], f[1]}, (bgz_vec2){f[2], f[3]}, (bgz_vec2){f[4], f[5]});
+    out->values[0].f = r;
 }
 
 static void edge2_culling_intersection(const struct arguments *in, struct answer *out) {
     const float *f = in->floats;
-    out->status = BGZ_ANSWERED;
-    out->values[0].u = bgz_edge2_culling_intersection(
+    bool r = bgz_edge2_culling_intersection(
         (bgz_vec2){f[0], f[1]}, (bgz_vec2){f[2], f[3]}, (bgz_vec2){f[4], f[5]}, (bgz_vec2){f[6], f[7]});
+    out->status = BGZ_ANSWERED;
+    out->values[0].u = r;
 }
 
 static void edge2_nearest_origin(const struct arguments *in, struct answer *out) {
@@ -216,8 +232,9 @@ static void aabb_intersections_against_ray(const struct arguments *in, struct an
 
 static void aabb_is_include_point(const struct arguments *in, struct answer *out) {
     const float *f = in->floats;
+    bool r = bgz_aabb_is_include_point((bgz_aabb2){f[0], f[1], f[2], f[3]}, (bgz_vec2){f[4], f[5]});
     out->status = BGZ_ANSWERED;
-    out->values[0].u = bgz_aabb_is_include_point((bgz_aabb2){f[0], f[1], f[2], f[3]}, (bgz_vec2){f[4], f[5]});
+    out->values[0].u = r;
 }
 
 static void aabb_center(const struct arguments *in, struct answer *out) {
@@ -299,8 +316,9 @@ static void aabb2_center(const struct arguments *in, struct answer *out) {
 
 static void aabb2_max_edge_size(const struct arguments *in, struct answer *out) {
     const float *f = in->floats;
+    float r = bgz_aabb2_max_edge_size((bgz_aabb2){f[0], f[1], f[2], f[3]});
     out->status = BGZ_ANSWERED;
-    out->values[0].f = bgz_aabb2_max_edge_size((bgz_aabb2){f[0], f[1], f[2], f[3]});
+    out->values[0].f = r;
 }
 
 static void aabb2_transform_homogeneous(const struct arguments *in, struct answer *out) {
@@ -331,14 +349,16 @@ static void aabb2_to_transformation_world2unit_ortho_preserve_asp(const struct a
 
 static void aabb2_is_include_point2(const struct arguments *in, struct answer *out) {
     const float *f = in->floats;
+    bool r = bgz_aabb2_is_include_point2((bgz_aabb2){f[0], f[1], f[2], f[3]}, (bgz_vec2){f[4], f[5]});
     out->status = BGZ_ANSWERED;
-    out->values[0].u = bgz_aabb2_is_include_point2((bgz_aabb2){f[0], f[1], f[2], f[3]}, (bgz_vec2){f[4], f[5]});
+    out->values[0].u = r;
 }
 
 static void aabb2_is_intersect_square(const struct arguments *in, struct answer *out) {
     const float *f = in->floats;
+    bool r = bgz_aabb2_is_intersect_square((bgz_aabb2){f[0], f[1], f[2], f[3]}, (bgz_vec2){f[4], f[5]}, f[6]);
     out->status = BGZ_ANSWERED;
-    out->values[0].u = bgz_aabb2_is_intersect_square((bgz_aabb2){f[0], f[1], f[2], f[3]}, (bgz_vec2){f[4], f[5]}, f[6]);
+    out->values[0].u = r;
 }
 
 static void aabb2_nearest_point2(const struct arguments *in, struct answer *out) {
@@ -351,8 +371,9 @@ static void aabb2_nearest_point2(const struct arguments *in, struct answer *out)
 
 static void aabb2_sdf(const struct arguments *in, struct answer *out) {
     const float *f = in->floats;
+    float r = bgz_aabb2_sdf((bgz_aabb2){f[0], f[1], f[2], f[3]}, (bgz_vec2){f[4], f[5]});
     out->status = BGZ_ANSWERED;
-    out->values[0].f = bgz_aabb2_sdf((bgz_aabb2){f[0], f[1], f[2], f[3]}, (bgz_vec2){f[4], f[5]});
+    out->values[0].f = r;
 }
 
 static void aabb2_scale(const struct arguments *in, struct answer *out) {
@@ -385,8 +406,9 @@ static void aabb2_overlapping_tiles(const struct arguments *in, struct answer *o
 }
 
 static void aabb2_count(const struct arguments *in, struct answer *out) {
+    size_t r = bgz_aabb2_count(in->lists[0].start, in->lists[0].length);
     out->status = BGZ_ANSWERED;
-    out->values[0].u = bgz_aabb2_count(in->lists[0].start, in->lists[0].length);
+    out->values[0].u = r;
 }
 
 static void aabb2_from_aabbs(const struct arguments *in, struct answer *out) {
@@ -424,9 +446,9 @@ static void obb2_corner_points(const struct arguments *in, struct answer *out) {
 
 static void obb2_is_include_point2(const struct arguments *in, struct answer *out) {
     const float *f = in->floats;
+    bool r = bgz_obb2_is_include_point2((bgz_obb2){f[0], f[1], f[2], f[3], f[4], f[5]}, (bgz_vec2){f[6], f[7]});
     out->status = BGZ_ANSWERED;
-    out->values[0].u = bgz_obb2_is_include_point2(
-        (bgz_obb2){f[0], f[1], f[2], f[3], f[4], f[5]}, (bgz_vec2){f[6], f[7]});
+    out->values[0].u = r;
 }
 
 static void obb2_nearest_point2(const struct arguments *in, struct answer *out) {
@@ -440,16 +462,18 @@ static void obb2_nearest_point2(const struct arguments *in, struct answer *out) 
 
 static void obb2_is_intersect_obb2(const struct arguments *in, struct answer *out) {
     const float *f = in->floats;
-    out->status = BGZ_ANSWERED;
-    out->values[0].u = bgz_obb2_is_intersect_obb2(
+    bool r = bgz_obb2_is_intersect_obb2(
         (bgz_obb2){f[0], f[1], f[2], f[3], f[4], f[5]}, (bgz_obb2){f[6], f[7], f[8], f[9], f[10], f[11]});
+    out->status = BGZ_ANSWERED;
+    out->values[0].u = r;
 }
 
 static void obb2_is_intersect_aabb2(const struct arguments *in, struct answer *out) {
     const float *f = in->floats;
-    out->status = BGZ_ANSWERED;
-    out->values[0].u = bgz_obb2_is_intersect_aabb2(
+    bool r = bgz_obb2_is_intersect_aabb2(
         (bgz_obb2){f[0], f[1], f[2], f[3], f[4], f[5]}, (bgz_aabb2){f[6], f[7], f[8], f[9]});
+    out->status = BGZ_ANSWERED;
+    out->values[0].u = r;
 }
 
 static void hatch_read_floats(const struct arguments *in, struct answer *out) {
@@ -469,14 +493,15 @@ static void hatch_read_patterns(const struct arguments *in, struct answer *out) 
 }
 
 static void hatch_record_count(const struct arguments *in, struct answer *out) {
+    size_t r = bgz_hatch_record_count(in->lists[0].start, in->lists[0].length);
     out->status = BGZ_ANSWERED;
-    out->values[0].u = bgz_hatch_record_count(in->lists[0].start, in->lists[0].length);
+    out->values[0].u = r;
 }
 
 static void hatch_report(const struct arguments *in, struct answer *out) {
+    size_t r = bgz_hatch_report(in->lists[1].start, in->lists[1].length, in->lists[0].start, in->lists[0].length);
     out->status = BGZ_ANSWERED;
-    out->values[0].u = bgz_hatch_report(
-        in->lists[1].start, in->lists[1].length, in->lists[0].start, in->lists[0].length);
+    out->values[0].u = r;
 }
 
 #define CALL(name) "bgz_" #name, name

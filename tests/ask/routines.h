@@ -1,6 +1,6 @@
 /*
  * The exported functions behind one form of call, so that a program can go through all of them: ./ask, the comparison with
- * the Rust, the hostile calls. tests/ask/generate writes the table, routines.c.
+ * the Rust, the hostile calls. tests/generate writes the table, routines.c.
  */
 #ifndef ROUTINES_H
 #define ROUTINES_H
@@ -8,7 +8,7 @@
 #include <stddef.h>
 #include <stdint.h>
 
-/* What a routine may have of each; tests/ask/generate holds the table to it. */
+/* What a routine may have of each; tests/generate holds the table to it. */
 enum { MOST_FLOATS = 16, MOST_WHOLES = 8, MOST_LISTS = 3, MOST_VALUES = 9 };
 
 /* A list as C hands it over: its start and the number of its entries. */

@@ -192,7 +192,7 @@ static void call_again_with_room(struct caller *caller, struct answer first) {
     if (count > 0) {
         place(caller, 0, count - 1);
         out = call(caller);
-        hold(caller, out.status == BGZ_ROOM, "no refusal with one entry too few");
+        hold(caller, out.status == BGZ_REFUSED_ROOM, "no refusal with one entry too few");
     }
 }
 

@@ -1,0 +1,141 @@
+"""The exported functions behind one form of call, tests/ask/routines.c, from the model. tests/ask/routines.h explains the table."""
+
+import pathlib
+import re
+import sys
+
+import c
+
+FORM = pathlib.Path(__file__).resolve().parent.parent / "ask/routines.h"
+WIDTH = 120
+
+# Requests whose names are not the functions'.
+NAMES = {
+    "bgz_aabb_intersections_against_line": "aabb.line",
+    "bgz_aabb_intersections_against_ray": "aabb.ray",
+    "bgz_aabb_is_include_point": "aabb.include",
+}
+# The letters of struct routine: a number that is none of these is a whole number; a list by its entries and whether it is written.
+NUMBERS = {"f32": "f", "i32": "i"}
+LISTS = {("u32", True): "u", ("f32", True): "f", ("u8", True): "b", ("f32", False): "F", ("u8", False): "B"}
+
+HEAD = """\
+/* Written by tests/generate from the functions that the Rattle sources export. */
+#include "routines.h"
+#include "bagnoszyk.h"
+"""
+
+
+def letter_of(number):
+    return NUMBERS.get(number, "u")
+
+
+def is_read_list(parameter):
+    return parameter.type.list and not parameter.type.mutable
+
+
+def wrapped(arguments):
+    """Arguments on lines of their own, and the end of the call."""
+    line = ""
+    for i, argument in enumerate(arguments):
+        text = argument + (", " if i + 1 < len(arguments) else ");")
+        if line and len(line + text.rstrip()) > WIDTH - 8:
+            yield " " * 8 + line.rstrip()
+            line = ""
+        line += text
+    if line:
+        yield " " * 8 + line
+
+
+class Call:
+    """An exported function: the fields of its request, name and letter each, and the C text of its call."""
+
+    def __init__(self, function, model):
+        self.function, self.model = function, model
+        self.fields, self.lists = [], []
+        # Lists of no fixed length stand last in a request.
+        handed = {p.name: self.hand(p) for p in sorted(function.parameters, key=is_read_list)}
+        self.arguments = [handed[p.name] for p in function.parameters]
+        answered = [(f"r{path}", letter_of(t)) for path, t in model.scalars(function.result)]
+        self.has_status = answered[0][0] == "r.status"
+        self.values = answered[self.has_status:]
+
+    def hand(self, parameter):
+        """Adds a parameter's fields, and gives the C text that hands it over."""
+        t = parameter.type
+        if t.list:
+            self.fields.append(("room", "r") if t.mutable else (parameter.name, LISTS[t.name, False]))
+            self.lists.append(LISTS[t.name, t.mutable])
+            place = f"in->lists[{len(self.lists) - 1}]"
+            return f"{place}.start, {place}.length"
+        numbers = []
+        for path, number in self.model.scalars(t.name):
+            letters = "f" if number == "f32" else "ur"
+            numbers.append(f"{letters[0]}[{self.count(letters)}]")
+            self.fields.append((parameter.name + path, letter_of(number)))
+        return f"({c.type_name(t.name)}){{{', '.join(numbers)}}}" if t.name in self.model.structs else numbers[0]
+
+    def count(self, letters):
+        """How many fields have one of these letters."""
+        return sum(letter in letters for _, letter in self.fields)
+
+    @property
+    def name(self):
+        return self.function.symbol.removeprefix("bgz_")
+
+    @property
+    def request(self):
+        """The name in requests, as C text. Bytes have no place in a request yet."""
+        asked = self.lists in ([], ["F"]) or self.gives == "l"
+        name = NAMES.get(self.function.symbol, f"{self.function.module}.{self.function.name}")
+        return f'"{name}"' if asked else "NULL"
+
+    @property
+    def gives(self):
+        return "l" if self.function.result == "CountAnswer" else "".join(letter for _, letter in self.values)
+
+    def statements(self):
+        if self.count("f"):
+            yield "const float *f = in->floats;"
+        if self.count("u"):
+            yield "const uint64_t *u = in->wholes;"
+        yield f"{c.type_name(self.function.result)} r = {self.function.symbol}({', '.join(self.arguments)});"
+        yield f"out->status = {'r.status' if self.has_status else 'BGZ_ANSWERED'};"
+        for i, (path, letter) in enumerate(self.values):
+            yield f"out->values[{i}].{letter} = {path};"
+
+    def code(self):
+        """The function that calls it. A call too long for a line has its arguments on the next."""
+        yield f"static void {self.name}(const struct arguments *in, struct answer *out) {{"
+        for statement in self.statements():
+            if len(statement) <= WIDTH - 4:
+                yield f"    {statement}"
+            else:
+                yield f"    {statement.partition('(')[0]}("
+                yield from wrapped(self.arguments)
+        yield "}\n"
+
+    def row(self):
+        takes = "".join(letter for _, letter in self.fields)
+        fields = " ".join(name for name, _ in self.fields)
+        yield f'    {{{self.request}, CALL({self.name}), "{takes}", "{"".join(self.lists)}", "{self.gives}",'
+        yield f'     "{fields}"}},'
+
+    def hold(self, most):
+        """Ends if a routine has more than the table's form has room for."""
+        counts = {"FLOATS": self.count("f"), "WHOLES": self.count("ur"), "LISTS": len(self.lists), "VALUES": len(self.values)}
+        for what, count in counts.items():
+            if count > most[what]:
+                sys.exit(f"routines: {self.function.symbol} needs {count}: raise MOST_{what} of tests/ask/routines.h")
+
+
+def table(model):
+    calls = [Call(function, model) for function in model.functions]
+    most = {what: int(count) for what, count in re.findall(r"MOST_(\w+) = (\d+)", FORM.read_text())}
+    for call in calls:
+        call.hold(most)
+    lines = [HEAD, *(line for call in calls for line in call.code())]
+    lines += ['#define CALL(name) "bgz_" #name, name\n', "const struct routine routines[] = {"]
+    lines += [line for call in calls for line in call.row()]
+    lines += ["};\n", "const size_t routine_count = sizeof routines / sizeof routines[0];\n"]
+    return "\n".join([*lines, f"const uint32_t last_refusal = {max(r.number for r in model.refusals)};\n"])
