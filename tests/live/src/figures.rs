@@ -11,32 +11,41 @@ pub struct Figure {
     pub answer: String,
 }
 
-/// The table's rows. A hatch line, a ray and a stroke are followed by their falling twins, in x and in y.
+/// The table's rows, then the falling twins, in x and in y, of its hatch lines, rays and strokes. No row comes twice.
 pub fn all() -> Result<Vec<Figure>, String> {
     let lines = TABLE.lines().filter(|line| !line.starts_with('#'));
-    Ok(lines.map(figures).collect::<Result<Vec<_>, _>>()?.into_iter().flatten().collect())
+    let mut figures: Vec<_> = lines.map(figure).collect::<Result<_, _>>()?;
+    for row in 0..figures.len() {
+        for twin in twins(&figures[row])? {
+            if figures.iter().all(|figure| figure.request != twin.request) {
+                figures.push(twin);
+            }
+        }
+    }
+    Ok(figures)
 }
 
-fn figures(line: &'static str) -> Result<Vec<Figure>, String> {
+fn figure(line: &str) -> Result<Figure, String> {
     let (request, answer) = line.split_once(" = ").ok_or(format!("{line}: not a row"))?;
-    let (pair, args) = parse(request)?;
-    let mut figures = vec![Figure { request: request.to_string(), answer: answer.to_string() }];
+    Ok(Figure { request: request.to_string(), answer: answer.to_string() })
+}
+
+fn twins(figure: &Figure) -> Result<Vec<Figure>, String> {
+    let (pair, args) = parse(&figure.request)?;
+    let mut twins = Vec::new();
     for axis in [0, 1] {
         let mut twin = args.clone();
         mirror(pair.row.shape, axis, &mut twin.floats);
-        let request = pair.routine.request(&twin);
         let answer = match pair.row.name {
             // A line and its box are mirrored: the parameters of its ends stay.
-            "aabb.line" | "aabb.ray" => answer.to_string(),
+            "aabb.line" | "aabb.ray" => figure.answer.clone(),
             // A stroke is mirrored within its bounds: other pixels, which the Rust tells.
             "edge2.overlapping_pixels_dda" => pair.rust_line(&twin)?,
             _ => continue,
         };
-        if figures.iter().all(|figure| figure.request != request) {
-            figures.push(Figure { request, answer });
-        }
+        twins.push(Figure { request: pair.routine.request(&twin), answer });
     }
-    Ok(figures)
+    Ok(twins)
 }
 
 /// Their number, if the Rust and the library answer all of them so.

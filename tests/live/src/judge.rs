@@ -4,6 +4,7 @@ mod aabb;
 mod aabb2;
 mod edge2;
 mod f32;
+mod hatch;
 mod limits;
 mod mat3;
 mod obb2;
@@ -65,6 +66,7 @@ pub fn all() -> impl Iterator<Item = &'static Row> {
         aabb::ROWS,
         aabb2::ROWS,
         obb2::ROWS,
+        hatch::ROWS,
     ];
     modules.into_iter().flatten()
 }
