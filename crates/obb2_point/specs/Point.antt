@@ -1,11 +1,12 @@
 -- A turned box and a point, each operation rounded. Definitions only.
 use mathlib.Core.Bool.{Bool, not, cond, _||_}
-use lib.Ieee.{lt, neg, isNan}
+use lib.Ieee.{Float, lt, neg, isNan}
 use Rattle.types.specs.declared.shape.Obb2.{Obb2}
 use Rattle.types.specs.declared.shape.Vec2.{Vec2}
 use Rattle.types.specs.declared.answer.Nearest.{Nearest}
 use Rattle.types.specs.declared.answer.Nearest.the-variants.{Some, Refused}
 use Rattle.obb2_point.specs.declared.Candidate.{Candidate}
+use Rattle.root.specs.Root.{sqrtOf}
 use Rattle.vec2.specs.Values as vec2
 use Rattle.edge2_measure.specs.Measure as edge2
 use Rattle.edge2_nearest.specs.Nearest.{nearestToPointOf}
@@ -23,22 +24,25 @@ isIncludePoint2Of o p =
 
 -- ---- the nearest point
 
--- the point of the edge from s to e that is nearest to p, with its distance
+-- the point of the edge from s to e that is nearest to p, with the square of its distance
 abbrev pub onEdgeOf : Vec2 → Vec2 → Vec2 → Candidate
-onEdgeOf p s e = let q = nearestToPointOf s e p .point in record { point = q; length = edge2.lengthOf q p }
+onEdgeOf p s e = let q = nearestToPointOf s e p .point in record { point = q; square = edge2.squaredLengthOf q p }
+
+abbrev pub distanceOf : Candidate → Float
+distanceOf c = sqrtOf (c .square)
 
 -- the first where they are equally near
 unfoldable pub nearerOf : Candidate → Candidate → Candidate
-nearerOf a b = cond (lt (b .length) (a .length)) b a
+nearerOf a b = cond (lt (distanceOf b) (distanceOf a)) b a
 
--- refusal 7 where a length is NaN
+-- refusal 7 where a distance is NaN
 unfoldable pub chosenOf : Candidate → Candidate → Candidate → Candidate → Nearest
 chosenOf a b c d =
-    cond (isNan (a .length) || (isNan (b .length) || (isNan (c .length) || isNan (d .length))))
+    cond (isNan (distanceOf a) || isNan (distanceOf b) || isNan (distanceOf c) || isNan (distanceOf d))
     (Refused 7)
     (Some (nearerOf (nearerOf (nearerOf a b) c) d .point))
 
--- the point itself where it is included, NaN lengths or not
+-- the point itself where it is included, NaN distances or not
 unfoldable pub nearestPoint2Of : Obb2 → Vec2 → Nearest
 nearestPoint2Of o p =
     let c = cornerPointsOf o in

@@ -4,7 +4,8 @@ use types::Nearest;
 use types::Obb2;
 use types::Vec2;
 ghost use mathlib.Core.Path.{_≡_};
-ghost use Rattle.obb2_point.specs.Point.{beyondOf, isIncludePoint2Of, onEdgeOf, nearerOf, chosenOf, nearestPoint2Of};
+ghost use lib.Ieee.{isNan};
+ghost use Rattle.obb2_point.specs.Point.{beyondOf, isIncludePoint2Of, onEdgeOf, distanceOf, nearerOf, chosenOf, nearestPoint2Of};
 
 // Whether d, seen along the half edge v, lies past either end of the whole edge. A NaN lies past neither.
 fn beyond(d: Vec2, v: Vec2) -> bool
@@ -29,10 +30,10 @@ pub fn is_include_point2(o: Obb2, p: Vec2) -> bool
     !beyond(d, Vec2 { x: o.vx, y: o.vy })
 }
 
-// A point of the box's outline, and its distance from the point asked about.
+// A point of the box's outline, and the square of its distance from the point asked about.
 struct Candidate {
     point: Vec2,
-    length: f32,
+    square: f32,
 }
 
 // The point nearest to p on the edge from s to e.
@@ -43,31 +44,34 @@ fn on_edge(s: Vec2, e: Vec2, p: Vec2) -> Candidate
     let point = near.point;
     Candidate {
         point,
-        length: edge2_measure::length(point, p),
+        square: edge2_measure::squared_length(point, p),
     }
 }
 
-// The nearer of two, the first where they are equally near.
+// Whether the distance, which is the square's root, is NaN.
+fn nan_distance(c: Candidate) -> bool
+    ensures { λ r. ⌜ r ≡ isNan (distanceOf c) ⌝ }
+{
+    !(c.square >= 0.0)
+}
+
+// The nearer of two, the first where they are equally near. Roots are slow, and a root is below another only if its square is.
 fn nearer(a: Candidate, b: Candidate) -> Candidate
     ensures { λ r. ⌜ r ≡ nearerOf a b ⌝ }
 {
-    if b.length < a.length { b } else { a }
+    if b.square < a.square {
+        if root::sqrt(b.square) < root::sqrt(a.square) {
+            return b;
+        }
+    }
+    a
 }
 
-// The nearest of four, refused where a length is NaN.
+// The nearest of four, refused where a distance is NaN.
 fn chosen(a: Candidate, b: Candidate, c: Candidate, d: Candidate) -> Nearest
     ensures { λ r. ⌜ r ≡ chosenOf a b c d ⌝ }
 {
-    if a.length != a.length {
-        return Nearest::Refused(types::refusal::NAN_LENGTH);
-    }
-    if b.length != b.length {
-        return Nearest::Refused(types::refusal::NAN_LENGTH);
-    }
-    if c.length != c.length {
-        return Nearest::Refused(types::refusal::NAN_LENGTH);
-    }
-    if d.length != d.length {
+    if nan_distance(a) | nan_distance(b) | nan_distance(c) | nan_distance(d) {
         return Nearest::Refused(types::refusal::NAN_LENGTH);
     }
     let near = nearer(nearer(nearer(a, b), c), d);
@@ -75,7 +79,7 @@ fn chosen(a: Candidate, b: Candidate, c: Candidate, d: Candidate) -> Nearest
     Nearest::Some(point)
 }
 
-// The point itself where the box includes it, and else the nearest point of the four edges. Refused where one of their lengths is NaN.
+// The point itself where the box includes it, and else the nearest point of the four edges. Refused where one of their distances is NaN.
 pub fn nearest_point2(o: Obb2, p: Vec2) -> Nearest
     ensures { λ r. ⌜ r ≡ nearestPoint2Of o p ⌝ }
 {
