@@ -35,11 +35,11 @@ pub record Greatest (xs : List Float) (m : Float) : Type 0 where
   pub one-of : NumberOfOr xs -∞ m
   pub none-above : (x : Float) → NumberOfOr xs -∞ x → lt m x ≡ false
 
--- one number, but for the sign of a zero
+-- of two numbers: they are the same, but for the sign of a zero
 abbrev pub Level : Float → Float → Type 0
 Level x y = (lt x y ≡ false) × (lt y x ≡ false)
 
--- a folded range has these ends and no others; proved in proofs/Disjoint.antt, as are the statements below
+-- a folded range has these ends and no others; proved in proofs/Ends.antt, and the statements below in proofs/Disjoint.antt
 abbrev pub RangeEnds : Type 0
 RangeEnds = (xs : List Float) → Least xs (rangeOf xs .low) × Greatest xs (rangeOf xs .high)
 
@@ -64,6 +64,7 @@ NumbersDecide =
     Below xs ys ↔ ((x y : Float) → NumberOf xs x → NumberOf ys y → lt x y ≡ true)
 
 module _ {P : Type 0} (dot : P → P → Float) where
+  -- an axis separates exactly if the intervals on it are disjoint
   abbrev pub SeparatesIfDisjoint : Type 0
   SeparatesIfDisjoint = (ps qs : List P) (axis : P) → (separates dot ps qs axis ≡ true) ↔ Disjoint (projections dot ps axis) (projections dot qs axis)
 

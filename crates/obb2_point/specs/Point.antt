@@ -28,6 +28,7 @@ isIncludePoint2Of o p =
 abbrev pub onEdgeOf : Vec2 → Vec2 → Vec2 → Candidate
 onEdgeOf p s e = let q = nearestToPointOf s e p .point in record { point = q; square = edge2.squaredLengthOf q p }
 
+-- that of edge2's `lengthOf`
 abbrev pub distanceOf : Candidate → Float
 distanceOf c = sqrtOf (c .square)
 
