@@ -142,7 +142,8 @@ def comment_of(text):
 
 def named(text):
     """Names and types, from a comma-separated list that may have comments."""
-    found = re.findall(COMMENT + r"^ *(?:pub )?(\w+): ([^,\n]+),?$", text.replace(", ", ",\n").strip("\n"), re.M)
+    lines = re.sub(r", (?=\w+: )", ",\n", text.strip("\n"))
+    found = re.findall(COMMENT + r"^ *(?:pub )?(\w+): ([^,\n]+),?$", lines, re.M)
     return tuple(Named(name, Type.of(t), " ".join(comment_of(comment).text)) for comment, name, t in found)
 
 
