@@ -42,7 +42,7 @@ extern "C" {
 
 #define BGZ_IMAGE_SIDE_MAX 16384         /* The longest side of an image in pixels, and of a sheet in tiles. */
 #define BGZ_STROKE_COORDINATE_MAX 65536  /* The largest coordinate of a stroke's ends, in size. */
-#define BGZ_STROKE_ENTRIES_MAX 131075    /* Room for the entries of any stroke. */
+#define BGZ_STROKE_ENTRIES_MAX 16385     /* Room for the entries of any stroke. */
 #define BGZ_TILE_COORDINATE_MAX 1048576  /* The largest coordinate of a box whose tiles are listed, in size. */
 #define BGZ_TILE_SIZE_MAX 4096           /* The longest side of a tile. */
 #define BGZ_HATCH_RECORDS_MAX 2000       /* The most records of a hatch list. */
@@ -411,7 +411,8 @@ bgz_float_answer bgz_edge2_ink(bgz_vec2 s, bgz_vec2 e, bgz_aabb2 b);
  * while x and y lie within the ends' ranges, widened by 2^-23. Each position in the image enters row * width + column.
  * The position after them enters the same as a closing entry, a negative coordinate as 0: it may name a pixel of the
  * next row, or none.
- * Writes the entries to the start of list and answers how many, which is never above 131,075.
+ * Writes the entries to the start of list and answers how many: at most one more than the longer of width and height,
+ * so a list of that length is never too short.
  * Refused: BGZ_REFUSED_SIZE if width or height is above 16,384; BGZ_REFUSED_COORDINATE if a coordinate is not finite or
  * is above 65,536 in size; BGZ_REFUSED_SAME_ENDS if p0 equals p1; BGZ_REFUSED_ROOM if list is shorter than the entries.
  * Example: 8, 4, (1.5, 1.5), (3.5, 1.5), [0; 6] gives 4 and leaves [9, 10, 11, 12, 0, 0].

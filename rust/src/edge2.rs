@@ -208,7 +208,8 @@ pub fn ink(s: Vec2, e: Vec2, b: Aabb2) -> Result<f32, Refusal> {
 /// them enters the same as a closing entry, a negative coordinate as 0: it may name a pixel of the
 /// next row, or none.
 ///
-/// Writes the entries to the start of `list` and answers how many, which is never above 131,075.
+/// Writes the entries to the start of `list` and answers how many: at most one more than the longer
+/// of `width` and `height`, so a list of that length is never too short.
 ///
 /// # Errors
 ///

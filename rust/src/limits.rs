@@ -9,7 +9,7 @@ pub const IMAGE_SIDE_MAX: usize = 16_384;
 pub const STROKE_COORDINATE_MAX: f32 = 65_536.0;
 
 /// Room for the entries of any stroke.
-pub const STROKE_ENTRIES_MAX: usize = 131_075;
+pub const STROKE_ENTRIES_MAX: usize = 16_385;
 
 /// The largest coordinate of a box whose tiles are listed, in size.
 pub const TILE_COORDINATE_MAX: f32 = 1_048_576.0;

@@ -39,8 +39,7 @@ fn sides_of_an_image() {
 
 #[test]
 fn coordinates() {
-    let longest = stroke(IMAGE_SIDE_MAX, 1, STROKE_COORDINATE_MAX).unwrap();
-    assert!(longest <= STROKE_ENTRIES_MAX);
+    assert_eq!(stroke(IMAGE_SIDE_MAX, 1, STROKE_COORDINATE_MAX), Ok(STROKE_ENTRIES_MAX));
     assert_eq!(stroke(8, 8, STROKE_COORDINATE_MAX.next_up()), Err(Refusal::COORDINATE));
     assert!(tiles(TILE_COORDINATE_MAX, TILE_SIZE_MAX, 8, 8).is_ok());
     assert_eq!(tiles(TILE_COORDINATE_MAX.next_up(), 1, 8, 8), Err(Refusal::COORDINATE));

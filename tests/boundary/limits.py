@@ -1,14 +1,15 @@
 """What the routines take at most, and what they write at most: name, value, comment. rust/tests/limits.rs tries each on both sides."""
 
+SIDE = 16384
 RECORDS = 2000
 
 # The place of each record in decimal digits.
 PLACES = sum(len(str(place)) for place in range(1, RECORDS + 1))
 
 LIMITS = (
-    ("IMAGE_SIDE_MAX", 16384, "The longest side of an image in pixels, and of a sheet in tiles."),
+    ("IMAGE_SIDE_MAX", SIDE, "The longest side of an image in pixels, and of a sheet in tiles."),
     ("STROKE_COORDINATE_MAX", 65536, "The largest coordinate of a stroke's ends, in size."),
-    ("STROKE_ENTRIES_MAX", 131075, "Room for the entries of any stroke."),
+    ("STROKE_ENTRIES_MAX", SIDE + 1, "Room for the entries of any stroke."),
     ("TILE_COORDINATE_MAX", 1048576, "The largest coordinate of a box whose tiles are listed, in size."),
     ("TILE_SIZE_MAX", 4096, "The longest side of a tile."),
     ("HATCH_RECORDS_MAX", RECORDS, "The most records of a hatch list."),

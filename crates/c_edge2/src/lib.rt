@@ -121,7 +121,8 @@ pub extern "C" fn bgz_edge2_ink(s: Vec2, e: Vec2, b: Aabb2) -> FloatAnswer
 // Each step adds the difference of the ends divided by the larger absolute difference, signs kept. The walk goes on while x and y
 // lie within the ends' ranges, widened by 2^-23. Each position in the image enters row * `width` + column. The position after them
 // enters the same as a closing entry, a negative coordinate as 0: it may name a pixel of the next row, or none.
-// Writes the entries to the start of `list` and answers how many, which is never above 131,075.
+// Writes the entries to the start of `list` and answers how many: at most one more than the longer of `width` and `height`, so a
+// list of that length is never too short.
 // Refused: `SIZE` if `width` or `height` is above 16,384; `COORDINATE` if a coordinate is not finite or is above 65,536 in size;
 // `SAME_ENDS` if `p0` equals `p1`; `ROOM` if `list` is shorter than the entries.
 // Example: 8, 4, (1.5, 1.5), (3.5, 1.5), [0; 6] gives 4 and leaves [9, 10, 11, 12, 0, 0].
