@@ -198,7 +198,7 @@ mod raw {
 ///
 /// # Errors
 ///
-/// [[`Refusal::RADIUS`](crate::Refusal::RADIUS)] if `radius` is not at least 0, as with a NaN.
+/// [`Refusal::RADIUS`] if `radius` is not at least 0, as with a NaN.
 ///
 /// # Example
 ///
@@ -217,7 +217,7 @@ pub fn from_point(p: Vec2, radius: f32) -> Result<Aabb2, Refusal> {
 ///
 /// # Errors
 ///
-/// [[`Refusal::RADIUS`](crate::Refusal::RADIUS)] if `radius` is not at least 0, as with a NaN.
+/// [`Refusal::RADIUS`] if `radius` is not at least 0, as with a NaN.
 ///
 /// # Example
 ///
@@ -238,7 +238,7 @@ pub fn add_point(b: Aabb2, p: Vec2, radius: f32) -> Result<Aabb2, Refusal> {
 ///
 /// # Errors
 ///
-/// [[`Refusal::RADIUS`](crate::Refusal::RADIUS)] if `radius` is not at least 0, as with a NaN.
+/// [`Refusal::RADIUS`] if `radius` is not at least 0, as with a NaN.
 ///
 /// # Example
 ///
@@ -261,7 +261,7 @@ pub fn add_point_lent(b: Aabb2, p: Vec2, radius: f32) -> Result<Aabb2, Refusal> 
 ///
 /// # Errors
 ///
-/// [[`Refusal::SIZE`](crate::Refusal::SIZE)] if `width` or `height` is above 16,384.
+/// [`Refusal::SIZE`] if `width` or `height` is above 16,384.
 ///
 /// # Example
 ///
@@ -281,7 +281,7 @@ pub fn rasterize(b: Aabb2, width: usize, height: usize) -> Result<Pixels, Refusa
 ///
 /// # Errors
 ///
-/// [[`Refusal::NO_IMAGE`](crate::Refusal::NO_IMAGE)] if a corner has none: see
+/// [`Refusal::NO_IMAGE`] if a corner has none: see
 /// [`mat3::transform_homogeneous`](crate::mat3::transform_homogeneous).
 ///
 /// # Example
@@ -302,8 +302,7 @@ pub fn transform_homogeneous(b: Aabb2, m: Mat3) -> Result<Aabb2, Refusal> {
 ///
 /// # Errors
 ///
-/// [[`Refusal::ORDER`](crate::Refusal::ORDER)] if `b` is not low <= high in x, then in y, as with a
-/// NaN.
+/// [`Refusal::ORDER`] if `b` is not low <= high in x, then in y, as with a NaN.
 ///
 /// # Example
 ///
@@ -330,10 +329,9 @@ pub fn nearest_point2(b: Aabb2, p: Vec2) -> Result<Vec2, Refusal> {
 ///
 /// # Errors
 ///
-/// [[`Refusal::SIZE`](crate::Refusal::SIZE)] if `size` is 0 or above 4,096, or `shape_width` or
-/// `shape_height` is above 16,384; [[`Refusal::COORDINATE`](crate::Refusal::COORDINATE)] if a
-/// coordinate of `b` is not finite or is above 1,048,576 in size;
-/// [[`Refusal::ROOM`](crate::Refusal::ROOM)] if `out` is shorter than the tiles.
+/// [`Refusal::SIZE`] if `size` is 0 or above 4,096, or `shape_width` or `shape_height` is above
+/// 16,384; [`Refusal::COORDINATE`] if a coordinate of `b` is not finite or is above 1,048,576 in
+/// size; [`Refusal::ROOM`] if `out` is shorter than the tiles.
 ///
 /// # Example
 ///
@@ -382,8 +380,7 @@ pub fn count(all: &[f32]) -> usize {
 ///
 /// # Errors
 ///
-/// [[`Refusal::INDEX`](crate::Refusal::INDEX)] if `index` is not below
-/// [`aabb2::count`](crate::aabb2::count).
+/// [`Refusal::INDEX`] if `index` is not below [`aabb2::count`](crate::aabb2::count).
 ///
 /// # Example
 ///
@@ -405,7 +402,7 @@ pub fn from_aabbs(all: &[f32], index: usize) -> Result<Aabb2, Refusal> {
 ///
 /// # Errors
 ///
-/// [[`Refusal::INDEX`](crate::Refusal::INDEX)] if the list has fewer than 4 floats.
+/// [`Refusal::INDEX`] if the list has fewer than 4 floats.
 ///
 /// # Example
 ///

@@ -159,8 +159,8 @@ mod raw {
 ///
 /// # Errors
 ///
-/// [[`Refusal::ORDER`](crate::Refusal::ORDER)] if in x the box is not low <= high, as with a NaN,
-/// or both ends are NaN; then, unless x shares nothing, the same in y.
+/// [`Refusal::ORDER`] if in x the box is not low <= high, as with a NaN, or both ends are NaN;
+/// then, unless x shares nothing, the same in y.
 ///
 /// # Example
 ///
@@ -183,8 +183,8 @@ pub fn intersection_length_against_aabb2(s: Vec2, e: Vec2, b: Aabb2) -> Result<f
 ///
 /// # Errors
 ///
-/// [[`Refusal::ORDER`](crate::Refusal::ORDER)] if in x the box is not low <= high, as with a NaN,
-/// or both ends are NaN; then, unless x shares nothing, the same in y.
+/// [`Refusal::ORDER`] if in x the box is not low <= high, as with a NaN, or both ends are NaN;
+/// then, unless x shares nothing, the same in y.
 ///
 /// # Example
 ///
@@ -213,10 +213,9 @@ pub fn ink(s: Vec2, e: Vec2, b: Aabb2) -> Result<f32, Refusal> {
 ///
 /// # Errors
 ///
-/// [[`Refusal::SIZE`](crate::Refusal::SIZE)] if `width` or `height` is above 16,384;
-/// [[`Refusal::COORDINATE`](crate::Refusal::COORDINATE)] if a coordinate is not finite or is above
-/// 65,536 in size; [[`Refusal::SAME_ENDS`](crate::Refusal::SAME_ENDS)] if `p0` equals `p1`;
-/// [[`Refusal::ROOM`](crate::Refusal::ROOM)] if `list` is shorter than the entries.
+/// [`Refusal::SIZE`] if `width` or `height` is above 16,384; [`Refusal::COORDINATE`] if a
+/// coordinate is not finite or is above 65,536 in size; [`Refusal::SAME_ENDS`] if `p0` equals `p1`;
+/// [`Refusal::ROOM`] if `list` is shorter than the entries.
 ///
 /// # Example
 ///

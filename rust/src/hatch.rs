@@ -47,12 +47,10 @@ mod raw {
 ///
 /// # Errors
 ///
-/// [[`Refusal::MARK`](crate::Refusal::MARK)] if the bytes do not begin with "HSL";
-/// [[`Refusal::LENGTH`](crate::Refusal::LENGTH)] if they are fewer than 7;
-/// [[`Refusal::VERSION`](crate::Refusal::VERSION)] if the version is not 1;
-/// [[`Refusal::COUNT`](crate::Refusal::COUNT)] if the count is above 2,000;
-/// [[`Refusal::LENGTH`](crate::Refusal::LENGTH)] if they are not 7 + 32 * count;
-/// [[`Refusal::ROOM`](crate::Refusal::ROOM)] if `out` is shorter than 8 * count.
+/// [`Refusal::MARK`] if the bytes do not begin with "HSL"; [`Refusal::LENGTH`] if they are fewer
+/// than 7; [`Refusal::VERSION`] if the version is not 1; [`Refusal::COUNT`] if the count is above
+/// 2,000; [`Refusal::LENGTH`] if they are not 7 + 32 * count; [`Refusal::ROOM`] if `out` is shorter
+/// than 8 * count.
 ///
 /// # Example
 ///

@@ -83,8 +83,7 @@ mod raw {
 ///
 /// # Errors
 ///
-/// [[`Refusal::NAN_LENGTH`](crate::Refusal::NAN_LENGTH)] if `p` is not included and its distance to
-/// one of the four is a NaN.
+/// [`Refusal::NAN_LENGTH`] if `p` is not included and its distance to one of the four is a NaN.
 ///
 /// # Example
 ///

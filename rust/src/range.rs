@@ -22,7 +22,7 @@ mod raw {
 ///
 /// # Errors
 ///
-/// [[`Refusal::ORDER`](crate::Refusal::ORDER)] if `a` or `b` is not low <= high, as with a NaN.
+/// [`Refusal::ORDER`] if `a` or `b` is not low <= high, as with a NaN.
 ///
 /// # Example
 ///
@@ -43,7 +43,7 @@ pub fn distance_to_range(a: Range, b: Range) -> Result<Option<f32>, Refusal> {
 ///
 /// # Errors
 ///
-/// [[`Refusal::ORDER`](crate::Refusal::ORDER)] if `a` or `b` is not low <= high, as with a NaN.
+/// [`Refusal::ORDER`] if `a` or `b` is not low <= high, as with a NaN.
 ///
 /// # Example
 ///

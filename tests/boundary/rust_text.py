@@ -14,7 +14,7 @@ def text_of(text, model):
     """A comment's text, with links to functions and refusals."""
     for refusal in model.refusals:
         text = text.replace(f"`{refusal.name}`", f"[`Refusal::{refusal.name}`]")
-    return re.sub(r"`(\w+::\w+)`", r"[`\1`](crate::\1)", text)
+    return re.sub(r"`([a-z]\w*::\w+)`", r"[`\1`](crate::\1)", text)
 
 
 def comment(text, model, indent=0, mark="///"):
