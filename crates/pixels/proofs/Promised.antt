@@ -45,7 +45,8 @@ module _ (w h : ℕ) (p q : Vec2) (l : List ℕ) where
       unfolding overlappingPixelsDdaOf
       refused-same d = refused 2 (λ z. omega arith) (simp (s, o, d))
 
-      pub walked : sameEnds p q ≡ false → Accepted p q → w ≤ 16384 → h ≤ 16384 → (r : Listed) (l' : List ℕ) → Listing (strokeOf w h p q) l r l' → Promise w h p q l r l'
+      pub walked : sameEnds p q ≡ false → Accepted p q → w ≤ 16384 → h ≤ 16384 → (r : Listed) (l' : List ℕ)
+          → Listing (strokeOf w h p q) l r l' → Promise w h p q l r l'
       unfolding overlappingPixelsDdaOf
       walked d v wide high r l' g =
           let es = strokeOf w h p q in

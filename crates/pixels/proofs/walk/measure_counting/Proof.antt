@@ -22,7 +22,11 @@ abbrev μ-loop : tie.MeasureT-loop
 μ-loop room width height a b wide high p₀ n₀ k₀ p n k = mostSteps - k
 
 -- in a turn
-steps : (c : tie.Then1 Inv-loop μ-loop) → let s = c .before .before .before .before .before .before .args in let g = c .before .before .loop in stepsOn (s .a) (s .b) (g .p) (g .k) ≡ true
+steps :
+    (c : tie.Then1 Inv-loop μ-loop) →
+    let s = c .before .before .before .before .before .before .args in
+    let g = c .before .before .loop in
+    stepsOn (s .a) (s .b) (g .p) (g .k) ≡ true
 steps c = sym (c .before .steps-on .ensures) ∙ c .if1 .taken
 
 few : (c : tie.Then1 Inv-loop μ-loop) → c .before .before .loop .k < mostSteps
@@ -80,7 +84,10 @@ returns : tie.Need-returns Inv-loop μ-loop
 returns c =
     let s = c .before .before .before .before .before .before in
     let g = c .before .before .loop in
-    record { steps-is = walking-end (g .inv .0) (sym (c .before .steps-on .ensures) ∙ c .if1 .left); fits-is = ap (λ (i : ℕ). ltb i (s .args .room)) (g .inv .1 .count) }
+    record {
+      steps-is = walking-end (g .inv .0) (sym (c .before .steps-on .ensures) ∙ c .if1 .left);
+      fits-is = ap (λ (i : ℕ). ltb i (s .args .room)) (g .inv .1 .count);
+    }
 
 pub measure-counting-spec : {M : Type 1} → statement M
 measure-counting-spec =
