@@ -12,7 +12,8 @@
  *
  * Floats. Each operation is rounded to the nearest float, ties to even, as IEEE 754 has it. The caller must leave the
  * rounding mode as it is at the start of a program, and subnormal numbers on: a program linked with -ffast-math may turn
- * them off. A comparison with a NaN is false. An answer that is a NaN may have any NaN's bits. +0 and -0 are equal in every
+ * them off. Else answers may be others; that calls still end and keep to their lists is tested, and not proved.
+ * A comparison with a NaN is false. An answer that is a NaN may have any NaN's bits. +0 and -0 are equal in every
  * comparison; of two equal zeros a minimum or maximum gives the first. Minimum and maximum, wherever a comment names them,
  * drop a NaN if the other is a number.
  *
