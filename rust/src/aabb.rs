@@ -1,6 +1,6 @@
 //! Upright boxes: clipping lines, and what is inside.
 //!
-//! Written by tests/generate from crates/c_aabb/src/lib.rt: change that, and run it.
+//! Written by tests/generate from the exported functions bgz_aabb_..; not to be edited.
 
 use crate::answers::Interval;
 use crate::shapes::{Aabb2, Vec2};

@@ -1,7 +1,7 @@
 //! Upright boxes: making, changing and measuring them, their pixels and tiles, and flat lists of
 //! them.
 //!
-//! Written by tests/generate from crates/c_aabb2/src/lib.rt: change that, and run it.
+//! Written by tests/generate from the exported functions bgz_aabb2_..; not to be edited.
 
 use crate::answers::Pixels;
 use crate::refusal::Refusal;

@@ -1,6 +1,6 @@
 //! Answers: what a routine gives where that is more than one number, and the structs of the C ABI.
 //!
-//! Written by tests/generate from crates/c_answers/src/lib.rt and crates/c_hatch/src/answer.rt: change that, and run it.
+//! Written by tests/generate from crates/c_answers/src/lib.rt and crates/c_hatch/src/answer.rt; not to be edited.
 
 use crate::refusal::Refusal;
 use crate::shapes::{Aabb2, Vec2};

@@ -1,6 +1,6 @@
 //! Edges, and pen strokes along them.
 //!
-//! Written by tests/generate from crates/c_edge2/src/lib.rt: change that, and run it.
+//! Written by tests/generate from the exported functions bgz_edge2_..; not to be edited.
 
 use crate::refusal::Refusal;
 use crate::shapes::{Aabb2, OnEdge, Vec2};

@@ -1,6 +1,6 @@
 //! Float helpers.
 //!
-//! Written by tests/generate from crates/c_f32/src/lib.rt: change that, and run it.
+//! Written by tests/generate from the exported functions bgz_f32_..; not to be edited.
 
 unsafe extern "C" {
     /// The absolute value: the sign is dropped, that of -0 too.

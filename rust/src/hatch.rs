@@ -2,7 +2,7 @@
 //! is 1, a 16-bit count n of at most 2,000, and n records of eight floats: box (min_x, min_y,
 //! max_x, max_y), origin (x, y), direction (x, y). Little-endian; 7 + 32 n bytes in all.
 //!
-//! Written by tests/generate from crates/c_hatch/src/lib.rt: change that, and run it.
+//! Written by tests/generate from the exported functions bgz_hatch_..; not to be edited.
 
 use crate::answers::Read;
 use crate::refusal::Refusal;

@@ -1,6 +1,6 @@
 //! What the routines take at most, and what they write at most.
 //!
-//! Written by tests/generate from tests/boundary/limits.py: change that, and run it.
+//! Written by tests/generate from tests/boundary/limits.py; not to be edited.
 
 /// The longest side of an image in pixels, and of a sheet in tiles.
 pub const IMAGE_SIDE_MAX: usize = 16_384;

@@ -1,6 +1,6 @@
 //! Transforms.
 //!
-//! Written by tests/generate from crates/c_mat3/src/lib.rt: change that, and run it.
+//! Written by tests/generate from the exported functions bgz_mat3_..; not to be edited.
 
 use crate::shapes::{Mat3, Vec2};
 

@@ -1,6 +1,6 @@
 //! Turned boxes.
 //!
-//! Written by tests/generate from crates/c_obb2/src/lib.rt: change that, and run it.
+//! Written by tests/generate from the exported functions bgz_obb2_..; not to be edited.
 
 use crate::refusal::Refusal;
 use crate::shapes::{Aabb2, Corners, Obb2, Vec2};

@@ -1,6 +1,6 @@
 //! Ranges of numbers.
 //!
-//! Written by tests/generate from crates/c_range/src/lib.rt: change that, and run it.
+//! Written by tests/generate from the exported functions bgz_range_..; not to be edited.
 
 use crate::refusal::Refusal;
 use crate::shapes::Range;

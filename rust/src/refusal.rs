@@ -1,6 +1,6 @@
 //! Refusals.
 //!
-//! Written by tests/generate from crates/types/src/refusal.rt: change that, and run it.
+//! Written by tests/generate from crates/types/src/refusal.rt; not to be edited.
 
 use std::error::Error;
 use std::fmt;

@@ -1,6 +1,6 @@
 //! Shapes as the library takes and returns them, each also from and to an array of its floats in order.
 //!
-//! Written by tests/generate from crates/types/src/shape.rt and the structs that routines return: change that, and run it.
+//! Written by tests/generate from crates/types/src/shape.rt and the structs that routines return; not to be edited.
 
 /// A point or a vector.
 #[derive(Clone, Copy, Debug, PartialEq)]

@@ -1,6 +1,6 @@
 //! Points and vectors.
 //!
-//! Written by tests/generate from crates/c_vec2/src/lib.rt: change that, and run it.
+//! Written by tests/generate from the exported functions bgz_vec2_..; not to be edited.
 
 use crate::shapes::Vec2;
 

@@ -100,7 +100,7 @@ def module_file(module, model):
     wrapped = [f for f in functions if f not in direct]
     yield from comment(model.modules[module], model, mark="//!")
     yield "//!"
-    yield from origin(f"crates/c_{module}/src/lib.rt")
+    yield from origin(f"the exported functions bgz_{module}_..")
     yield ""
     used = list(uses(functions, model))
     if used:

@@ -7,7 +7,7 @@ WIDTH = 100
 
 
 def origin(path):
-    return [f"//! Written by tests/generate from {path}: change that, and run it."]
+    return [f"//! Written by tests/generate from {path}; not to be edited."]
 
 
 def text_of(text, model):
