@@ -478,13 +478,6 @@ bgz_aabb2 bgz_aabb2_from_two_aabbs(bgz_aabb2 a, bgz_aabb2 b);
 bgz_box_answer bgz_aabb2_add_point(bgz_aabb2 b, bgz_vec2 p, float radius);
 
 /*
- * bgz_aabb2_add_point, whose box is lent inside and widened where it stands.
- * Refused: BGZ_REFUSED_RADIUS if radius is not at least 0, as with a NaN.
- * Example: (0, 0, 1, 1), (3, 0), 0 gives (0, 0, 3, 1).
- */
-bgz_box_answer bgz_aabb2_add_point_lent(bgz_aabb2 b, bgz_vec2 p, float radius);
-
-/*
  * The pixels of an image of width by height whose centres lie in b, low edge in and high edge out. x0 and y0 are not
  * held to the image, so x0 may be above x1, and y0 above y1: then there are none. A NaN in the low corner gives 0, and
  * in the high corner the whole side. A side may be 0.
@@ -591,6 +584,14 @@ bgz_box_answer bgz_aabb2_from_aabbs(const float *all, size_t all_length, size_t 
  * Example: [0, 0, 1, 1] gives (0, 0, 1, 1).
  */
 bgz_box_answer bgz_aabb2_from_slice(const float *s, size_t s_length);
+
+/*
+ * b widened where it stands to hold the box from p - radius to p + radius.
+ * Answers the status.
+ * Refused: BGZ_REFUSED_RADIUS if radius is not at least 0, as with a NaN; b stays as it was.
+ * Example: (0, 0, 1, 1), (3, 0), 0 leaves (0, 0, 3, 1).
+ */
+uint32_t bgz_aabb2_add_point_lent(bgz_aabb2 *b, bgz_vec2 p, float radius);
 
 /* ---- obb2: turned boxes. */
 

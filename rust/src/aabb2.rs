@@ -3,6 +3,7 @@
 //!
 //! Written by tests/generate from the exported functions bgz_aabb2_..; not to be edited.
 
+use crate::answers;
 use crate::answers::Pixels;
 use crate::refusal::Refusal;
 use crate::shapes::{Aabb2, Mat3, Vec2};
@@ -161,9 +162,6 @@ mod raw {
         #[link_name = "bgz_aabb2_add_point"]
         pub safe fn add_point(b: Aabb2, p: Vec2, radius: f32) -> BoxAnswer;
 
-        #[link_name = "bgz_aabb2_add_point_lent"]
-        pub safe fn add_point_lent(b: Aabb2, p: Vec2, radius: f32) -> BoxAnswer;
-
         #[link_name = "bgz_aabb2_rasterize"]
         pub safe fn rasterize(b: Aabb2, width: usize, height: usize) -> PixelsAnswer;
 
@@ -191,6 +189,9 @@ mod raw {
 
         #[link_name = "bgz_aabb2_from_slice"]
         pub fn from_slice(s: *const f32, s_length: usize) -> BoxAnswer;
+
+        #[link_name = "bgz_aabb2_add_point_lent"]
+        pub safe fn add_point_lent(b: &mut Aabb2, p: Vec2, radius: f32) -> u32;
     }
 }
 
@@ -231,27 +232,6 @@ pub fn from_point(p: Vec2, radius: f32) -> Result<Aabb2, Refusal> {
 #[inline]
 pub fn add_point(b: Aabb2, p: Vec2, radius: f32) -> Result<Aabb2, Refusal> {
     raw::add_point(b, p, radius).result()
-}
-
-/// [`aabb2::add_point`](crate::aabb2::add_point), whose box is lent inside and widened where it
-/// stands.
-///
-/// # Errors
-///
-/// [`Refusal::RADIUS`] if `radius` is not at least 0, as with a NaN.
-///
-/// # Example
-///
-/// ```
-/// use bagnoszyk::{Aabb2, Vec2, aabb2};
-///
-/// let b = Aabb2::from([0.0, 0.0, 1.0, 1.0]);
-/// let p = Vec2 { x: 3.0, y: 0.0 };
-/// assert_eq!(aabb2::add_point_lent(b, p, 0.0), Ok(Aabb2::from([0.0, 0.0, 3.0, 1.0])));
-/// ```
-#[inline]
-pub fn add_point_lent(b: Aabb2, p: Vec2, radius: f32) -> Result<Aabb2, Refusal> {
-    raw::add_point_lent(b, p, radius).result()
 }
 
 /// The pixels of an image of `width` by `height` whose centres lie in `b`, low edge in and high
@@ -418,4 +398,25 @@ pub fn from_slice(s: &[f32]) -> Result<Aabb2, Refusal> {
         raw::from_slice(s.as_ptr(), s.len())
     };
     a.result()
+}
+
+/// `b` widened where it stands to hold the box from `p` - `radius` to `p` + `radius`.
+///
+/// # Errors
+///
+/// [`Refusal::RADIUS`] if `radius` is not at least 0, as with a NaN; `b` stays as it was.
+///
+/// # Example
+///
+/// ```
+/// use bagnoszyk::{Aabb2, Vec2, aabb2};
+///
+/// let mut b = Aabb2::from([0.0, 0.0, 1.0, 1.0]);
+/// let p = Vec2 { x: 3.0, y: 0.0 };
+/// assert_eq!(aabb2::add_point_lent(&mut b, p, 0.0), Ok(()));
+/// assert_eq!(b, Aabb2::from([0.0, 0.0, 3.0, 1.0]));
+/// ```
+#[inline]
+pub fn add_point_lent(b: &mut Aabb2, p: Vec2, radius: f32) -> Result<(), Refusal> {
+    answers::result(raw::add_point_lent(b, p, radius), ())
 }

@@ -285,16 +285,6 @@ static void aabb2_add_point(const struct arguments *in, struct answer *out) {
     out->values[3].f = r.value.max_y;
 }
 
-static void aabb2_add_point_lent(const struct arguments *in, struct answer *out) {
-    const float *f = in->floats;
-    bgz_box_answer r = bgz_aabb2_add_point_lent((bgz_aabb2){f[0], f[1], f[2], f[3]}, (bgz_vec2){f[4], f[5]}, f[6]);
-    out->status = r.status;
-    out->values[0].f = r.value.min_x;
-    out->values[1].f = r.value.min_y;
-    out->values[2].f = r.value.max_x;
-    out->values[3].f = r.value.max_y;
-}
-
 static void aabb2_rasterize(const struct arguments *in, struct answer *out) {
     const float *f = in->floats;
     const uint64_t *u = in->wholes;
@@ -428,6 +418,16 @@ static void aabb2_from_slice(const struct arguments *in, struct answer *out) {
     out->values[1].f = r.value.min_y;
     out->values[2].f = r.value.max_x;
     out->values[3].f = r.value.max_y;
+}
+
+static void aabb2_add_point_lent(const struct arguments *in, struct answer *out) {
+    const float *f = in->floats;
+    bgz_aabb2 b = {f[0], f[1], f[2], f[3]};
+    out->status = bgz_aabb2_add_point_lent(&b, (bgz_vec2){f[4], f[5]}, f[6]);
+    out->values[0].f = b.min_x;
+    out->values[1].f = b.min_y;
+    out->values[2].f = b.max_x;
+    out->values[3].f = b.max_y;
 }
 
 static void obb2_corner_points(const struct arguments *in, struct answer *out) {
@@ -579,8 +579,6 @@ const struct routine routines[] = {
      "a.min_x a.min_y a.max_x a.max_y b.min_x b.min_y b.max_x b.max_y"},
     {"aabb2.add_point", CALL(aabb2_add_point), "fffffff", "", "ffff",
      "b.min_x b.min_y b.max_x b.max_y p.x p.y radius"},
-    {"aabb2.add_point_lent", CALL(aabb2_add_point_lent), "fffffff", "", "ffff",
-     "b.min_x b.min_y b.max_x b.max_y p.x p.y radius"},
     {"aabb2.rasterize", CALL(aabb2_rasterize), "ffffuu", "", "uuuu",
      "b.min_x b.min_y b.max_x b.max_y width height"},
     {"aabb2.center", CALL(aabb2_center), "ffff", "", "ff",
@@ -611,6 +609,8 @@ const struct routine routines[] = {
      "index all"},
     {"aabb2.from_slice", CALL(aabb2_from_slice), "F", "F", "ffff",
      "s"},
+    {"aabb2.add_point_lent", CALL(aabb2_add_point_lent), "fffffff", "", "ffff",
+     "b.min_x b.min_y b.max_x b.max_y p.x p.y radius"},
     {"obb2.corner_points", CALL(obb2_corner_points), "ffffff", "", "ffffffff",
      "o.cx o.cy o.ux o.uy o.vx o.vy"},
     {"obb2.is_include_point2", CALL(obb2_is_include_point2), "ffffffff", "", "u",

@@ -53,12 +53,15 @@ class Call:
     def __init__(self, function, model):
         self.function, self.model = function, model
         self.fields, self.lists = [], []
+        # A shape that is lent, as C declares it. What it holds afterwards is the answer, and what the function returns is the status.
+        self.lent = ""
         # Lists of no fixed length stand last in a request.
         handed = {p.name: self.hand(p) for p in sorted(function.parameters, key=is_read_list)}
         self.arguments = [handed[p.name] for p in function.parameters]
-        answered = [(f"r{path}", letter_of(t)) for path, t in model.scalars(function.result)]
-        self.has_status = answered[0][0] == "r.status"
-        self.values = answered[self.has_status:]
+        if not self.lent:
+            answered = [(f"r{path}", letter_of(t)) for path, t in model.scalars(function.result)]
+            self.has_status = answered[0][0] == "r.status"
+            self.values = answered[self.has_status:]
 
     def hand(self, parameter):
         """Adds a parameter's fields, and gives the C text that hands it over."""
@@ -68,11 +71,15 @@ class Call:
             self.lists.append(LISTS[t.name, t.mutable])
             place = f"in->lists[{len(self.lists) - 1}]"
             return f"{place}.start, {place}.length"
-        numbers = []
+        numbers, before = [], len(self.fields)
         for path, number in self.model.scalars(t.name):
             letters = "f" if number == "f32" else "ur"
             numbers.append(f"{letters[0]}[{self.count(letters)}]")
             self.fields.append((parameter.name + path, letter_of(number)))
+        if t.lent:
+            self.lent = f"{c.type_name(t.name)} {parameter.name} = {{{', '.join(numbers)}}};"
+            self.values = self.fields[before:]
+            return f"&{parameter.name}"
         return f"({c.type_name(t.name)}){{{', '.join(numbers)}}}" if t.name in self.model.structs else numbers[0]
 
     def count(self, letters):
@@ -99,8 +106,13 @@ class Call:
             yield "const float *f = in->floats;"
         if self.count("u"):
             yield "const uint64_t *u = in->wholes;"
-        yield f"{c.type_name(self.function.result)} r = {self.function.symbol}({', '.join(self.arguments)});"
-        yield f"out->status = {'r.status' if self.has_status else 'BGZ_ANSWERED'};"
+        call = f"{self.function.symbol}({', '.join(self.arguments)});"
+        if self.lent:
+            yield self.lent
+            yield f"out->status = {call}"
+        else:
+            yield f"{c.type_name(self.function.result)} r = {call}"
+            yield f"out->status = {'r.status' if self.has_status else 'BGZ_ANSWERED'};"
         for i, (path, letter) in enumerate(self.values):
             yield f"out->values[{i}].{letter} = {path};"
 

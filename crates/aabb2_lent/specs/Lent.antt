@@ -14,8 +14,3 @@ settledOf b (boxed.Refused n) = b
 abbrev pub answeredOf : Boxed → Widened
 answeredOf (boxed.Some w) = Done
 answeredOf (boxed.Refused n) = Refused n
-
--- the two put together again: the box, unless it was refused
-abbrev pub boxedOf : Aabb2 → Widened → Boxed
-boxedOf b Done = boxed.Some b
-boxedOf b (Refused n) = boxed.Refused n

@@ -5,7 +5,7 @@ use types::Vec2;
 use types::Widened;
 ghost use mathlib.Core.Path.{_≡_};
 ghost use Rattle.aabb2_from.specs.From.{addPointOf};
-ghost use Rattle.aabb2_lent.specs.Lent.{settledOf, answeredOf, boxedOf};
+ghost use Rattle.aabb2_lent.specs.Lent.{settledOf, answeredOf};
 
 // The box to leave in b's place: on a refusal b itself.
 fn settled(b: Aabb2, wider: Boxed) -> Aabb2
@@ -36,23 +36,4 @@ pub fn add_point(b: &mut Aabb2, p: Vec2, radius: f32) -> Widened
     let wider = aabb2_from::add_point(*b, p, radius);
     *b = settled(*b, wider);
     answered(wider)
-}
-
-// The box to give, unless it was refused.
-fn boxed(b: Aabb2, answer: Widened) -> Boxed
-    ensures { λ r. ⌜ r ≡ boxedOf b answer ⌝ }
-{
-    match answer {
-        Widened::Done => Boxed::Some(b),
-        Widened::Refused(n) => Boxed::Refused(n),
-    }
-}
-
-// The same for callers that have the box by value: they need no walk of their own.
-pub fn add_point_by_value(b: Aabb2, p: Vec2, radius: f32) -> Boxed
-    ensures { λ r. ⌜ r ≡ addPointOf b p radius ⌝ }
-{
-    let mut lent = b;
-    let answer = add_point(&mut lent, p, radius);
-    boxed(lent, answer)
 }

@@ -57,16 +57,6 @@ pub extern "C" fn bgz_aabb2_add_point(b: Aabb2, p: Vec2, radius: f32) -> BoxAnsw
     c_answers::boxed(aabb2::add_point(b, p, radius))
 }
 
-// `aabb2::add_point`, whose box is lent inside and widened where it stands.
-// Refused: `RADIUS` if `radius` is not at least 0, as with a NaN.
-// Example: (0, 0, 1, 1), (3, 0), 0 gives (0, 0, 3, 1).
-#[no_mangle]
-pub extern "C" fn bgz_aabb2_add_point_lent(b: Aabb2, p: Vec2, radius: f32) -> BoxAnswer
-    ensures { λ r. ⌜ r ≡ ofBoxed (addPointOf b p radius) ⌝ }
-{
-    c_answers::boxed(aabb2_lent::add_point_by_value(b, p, radius))
-}
-
 // The pixels of an image of `width` by `height` whose centres lie in `b`, low edge in and high edge out. x0 and y0 are not held to
 // the image, so x0 may be above x1, and y0 above y1: then there are none. A NaN in the low corner gives 0, and in the high corner
 // the whole side. A side may be 0.

@@ -19,6 +19,8 @@ use Rattle.types.specs.declared.answer.Pixels.{Pixels}
 use Rattle.types.specs.declared.answer.Pixels.the-variants as pixels
 use Rattle.types.specs.declared.answer.Listed.{Listed}
 use Rattle.types.specs.declared.answer.Listed.the-variants as listed
+use Rattle.types.specs.declared.answer.Widened.{Widened}
+use Rattle.types.specs.declared.answer.Widened.the-variants as widened
 use Rattle.c_answers.specs.declared.FloatAnswer.{FloatAnswer}
 use Rattle.c_answers.specs.declared.PointAnswer.{PointAnswer}
 use Rattle.c_answers.specs.declared.BoxAnswer.{BoxAnswer}
@@ -74,3 +76,8 @@ ofPixels (pixels.Refused n) = record { status = n; x0 = 0; y0 = 0; x1 = 0; y1 = 
 unfoldable pub ofListed : Listed → CountAnswer
 ofListed (listed.Count n) = record { status = 0; count = n }
 ofListed (listed.Refused n) = record { status = n; count = 0 }
+
+-- the box is with the lender: the status alone
+abbrev pub ofWidened : Widened → ℕ
+ofWidened widened.Done = 0
+ofWidened (widened.Refused n) = n

@@ -10,8 +10,9 @@ use types::Listed;
 use types::Nearest;
 use types::Pixels;
 use types::Vec2;
+use types::Widened;
 ghost use mathlib.Core.Path.{_≡_};
-ghost use Rattle.c_answers.specs.Answers.{ofExtent, ofLength, ofImage, ofNearest, ofBoxed, ofInterval, ofPixels, ofListed};
+ghost use Rattle.c_answers.specs.Answers.{ofExtent, ofLength, ofImage, ofNearest, ofBoxed, ofInterval, ofPixels, ofListed, ofWidened};
 
 // A number.
 #[repr(C)]
@@ -172,5 +173,15 @@ pub fn listed(a: Listed) -> CountAnswer
     match a {
         Listed::Count(count) => CountAnswer { status: 0, count },
         Listed::Refused(status) => CountAnswer { status, count: 0 },
+    }
+}
+
+// The box is with the lender: the status alone.
+pub fn widened(a: Widened) -> u32
+    ensures { λ r. ⌜ r ≡ ofWidened a ⌝ }
+{
+    match a {
+        Widened::Done => 0,
+        Widened::Refused(status) => status,
     }
 }
