@@ -9,8 +9,8 @@ use Rattle.float.specs.Rounded.{_⊕_, _⊖_, +0}
 use Rattle.float.specs.Values.{minOf, maxOf}
 
 -- the square around a point, whatever the radius
-abbrev pub around : Vec2 → Float → Aabb2
-around p r = record { «min_x» = p .x ⊖ r; «min_y» = p .y ⊖ r; «max_x» = p .x ⊕ r; «max_y» = p .y ⊕ r }
+abbrev pub aroundOf : Vec2 → Float → Aabb2
+aroundOf p r = record { «min_x» = p .x ⊖ r; «min_y» = p .y ⊖ r; «max_x» = p .x ⊕ r; «max_y» = p .y ⊕ r }
 
 -- the box around two boxes
 abbrev pub fromTwoAabbsOf : Aabb2 → Aabb2 → Aabb2
@@ -23,14 +23,11 @@ fromTwoAabbsOf a b =
     }
 
 abbrev pub fromTwoPointsOf : Vec2 → Vec2 → Float → Aabb2
-fromTwoPointsOf p q r = fromTwoAabbsOf (around p r) (around q r)
-
-abbrev pub widenedOf : Aabb2 → Vec2 → Float → Aabb2
-widenedOf b p r = fromTwoAabbsOf b (around p r)
+fromTwoPointsOf p q r = fromTwoAabbsOf (aroundOf p r) (aroundOf q r)
 
 -- refusal 6 where the radius is not at least 0, which no NaN is
 unfoldable pub fromPointOf : Vec2 → Float → Boxed
-fromPointOf p r = cond (le +0 r) (Some (around p r)) (Refused 6)
+fromPointOf p r = cond (le +0 r) (Some (aroundOf p r)) (Refused 6)
 
 unfoldable pub addPointOf : Aabb2 → Vec2 → Float → Boxed
-addPointOf b p r = cond (le +0 r) (Some (widenedOf b p r)) (Refused 6)
+addPointOf b p r = cond (le +0 r) (Some (fromTwoAabbsOf b (aroundOf p r))) (Refused 6)

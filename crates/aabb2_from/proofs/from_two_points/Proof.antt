@@ -3,27 +3,17 @@ use borrow.Author.Needs.{needs}
 use Rattle.aabb2_from.proofs.from_two_points.Statement.{statement}
 use Rattle.aabb2_from.proofs.from_two_points.Tie as tie
 
-min-requires : tie.Need-min-requires
-min-requires c κs = search needs
+around-requires : tie.Need-around-requires
+around-requires c κs = search needs
 
-min-requires-2 : tie.Need-min-requires-2
-min-requires-2 c κs = search needs
+around-requires-2 : tie.Need-around-requires-2
+around-requires-2 c κs = search needs
 
-max-requires : tie.Need-max-requires
-max-requires c κs = search needs
-
-max-requires-2 : tie.Need-max-requires-2
-max-requires-2 c κs = search needs
+from-two-aabbs-requires : tie.Need-from-two-aabbs-requires
+from-two-aabbs-requires c κs = search needs
 
 returns : tie.Need-returns
-returns c =
-    rw (
-      c .max2 .ensures,
-      c .before .before .before .max .ensures,
-      c .before .before .before .before .before .before .min2 .ensures,
-      c .before .before .before .before .before .before .before .before .before .min .ensures,
-    )
+returns c = simp (c .from-two-aabbs .ensures, c .before .around2 .ensures, c .before .before .around .ensures)
 
 pub from-two-points-spec : {M : Type 1} → statement M
-from-two-points-spec =
-    tie.close (tie.spec min-requires min-requires-2 max-requires max-requires-2 returns)
+from-two-points-spec = tie.close (tie.spec around-requires around-requires-2 from-two-aabbs-requires returns)
