@@ -4,19 +4,9 @@ use Rattle.c_answers.specs.Answers.{ofNearest}
 use Rattle.c_answers.proofs.nearest.Statement.{statement}
 use Rattle.c_answers.proofs.nearest.Tie as tie
 
-enum-known-a : tie.Need-enum-known-a
-enum-known-a c = search needs
-
-enum-known-a-2 : tie.Need-enum-known-a-2
-enum-known-a-2 c = search needs
-
-returns : tie.Need-returns
-unfolding ofNearest
-returns c = rw (c .before .a .given .1, c .known-told .given .1)
-
-returns-2 : tie.Need-returns-2
-unfolding ofNearest
-returns-2 c = rw (c .before .a2 .given .1, c .known-told2 .given .1)
-
 pub nearest-spec : {M : Type 1} → statement M
-nearest-spec = tie.close (tie.spec enum-known-a enum-known-a-2 returns returns-2)
+unfolding ofNearest
+nearest-spec = tie.close (tie.spec
+    (λ c. search needs) (λ c. search needs)
+    (λ c. rw (c .before .a .given .1, c .known-told .given .1))
+    (λ c. rw (c .before .a2 .given .1, c .known-told2 .given .1)))

@@ -3,15 +3,7 @@ use borrow.Author.Needs.{needs}
 use Rattle.c_range.proofs.bgz_range_distance_to_range.Statement.{statement}
 use Rattle.c_range.proofs.bgz_range_distance_to_range.Tie as tie
 
-distance-to-range-requires : tie.Need-distance-to-range-requires
-distance-to-range-requires c κs = search needs
-
-extent-requires : tie.Need-extent-requires
-extent-requires c κs = search needs
-
-returns : tie.Need-returns
-returns c = rw (c .extent .ensures, c .before .distance-to-range .ensures)
-
 pub bgz-range-distance-to-range-spec : {M : Type 1} → statement M
-bgz-range-distance-to-range-spec =
-    tie.close (tie.spec distance-to-range-requires extent-requires returns)
+bgz-range-distance-to-range-spec = tie.close (tie.spec
+    (λ c κs. search needs) (λ c κs. search needs)
+    (λ c. rw (c .extent .ensures, c .before .distance-to-range .ensures)))
