@@ -1,6 +1,7 @@
 /* Written by tests/generate from the functions that the Rattle sources export. */
 #include "routines.h"
 #include "bagnoszyk.h"
+#include <string.h>
 
 static void f32_abs(const struct arguments *in, struct answer *out) {
     const float *f = in->floats;
@@ -423,7 +424,10 @@ static void aabb2_from_slice(const struct arguments *in, struct answer *out) {
 static void aabb2_add_point_lent(const struct arguments *in, struct answer *out) {
     const float *f = in->floats;
     bgz_aabb2 b = {f[0], f[1], f[2], f[3]};
+    const bgz_aabb2 before = b;
     out->status = bgz_aabb2_add_point_lent(&b, (bgz_vec2){f[4], f[5]}, f[6]);
+    if (out->status != BGZ_ANSWERED && memcmp(&b, &before, sizeof before) == 0)
+        memset(&b, 0, sizeof b);
     out->values[0].f = b.min_x;
     out->values[1].f = b.min_y;
     out->values[2].f = b.max_x;

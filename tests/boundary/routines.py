@@ -23,6 +23,7 @@ HEAD = """\
 /* Written by tests/generate from the functions that the Rattle sources export. */
 #include "routines.h"
 #include "bagnoszyk.h"
+#include <string.h>
 """
 
 
@@ -53,8 +54,9 @@ class Call:
     def __init__(self, function, model):
         self.function, self.model = function, model
         self.fields, self.lists = [], []
-        # A shape that is lent, as C declares it. What it holds afterwards is the answer, and what the function returns is the status.
-        self.lent = ""
+        # A shape that is lent: its type, its name and its numbers. What it holds afterwards is the answer, and what the function returns
+        # is the status.
+        self.lent = ()
         # Lists of no fixed length stand last in a request.
         handed = {p.name: self.hand(p) for p in sorted(function.parameters, key=is_read_list)}
         self.arguments = [handed[p.name] for p in function.parameters]
@@ -77,7 +79,7 @@ class Call:
             numbers.append(f"{letters[0]}[{self.count(letters)}]")
             self.fields.append((parameter.name + path, letter_of(number)))
         if t.lent:
-            self.lent = f"{c.type_name(t.name)} {parameter.name} = {{{', '.join(numbers)}}};"
+            self.lent = c.type_name(t.name), parameter.name, ", ".join(numbers)
             self.values = self.fields[before:]
             return f"&{parameter.name}"
         return f"({c.type_name(t.name)}){{{', '.join(numbers)}}}" if t.name in self.model.structs else numbers[0]
@@ -108,8 +110,13 @@ class Call:
             yield "const uint64_t *u = in->wholes;"
         call = f"{self.function.symbol}({', '.join(self.arguments)});"
         if self.lent:
-            yield self.lent
+            t, name, numbers = self.lent
+            yield f"{t} {name} = {{{numbers}}};"
+            yield f"const {t} before = {name};"
             yield f"out->status = {call}"
+            # A refusal gives zeros, as elsewhere; one that changes the shape gives what it left there, and is caught by that.
+            yield f"if (out->status != BGZ_ANSWERED && memcmp(&{name}, &before, sizeof before) == 0)"
+            yield f"    memset(&{name}, 0, sizeof {name});"
         else:
             yield f"{c.type_name(self.function.result)} r = {call}"
             yield f"out->status = {'r.status' if self.has_status else 'BGZ_ANSWERED'};"
