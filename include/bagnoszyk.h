@@ -23,8 +23,9 @@
  * Lists. A list is a pointer to its first entry and the number of its entries; where that number is 0 the pointer may be
  * null. A pointer must be aligned for its type; that many entries must be readable, and writable unless the pointer is to
  * const. A list of bytes is a pointer to void, so that char serves as well as uint8_t. Lists of one call must not overlap.
- * A routine that writes to a list says which entries it writes; the entries beyond them are left as they are. A refused
- * call changes no list, but for the text of bgz_hatch_report.
+ * A routine that writes to a list says which entries it writes; the entries beyond them are left as they are. A box that
+ * is lent is a pointer to it, never null. A refused call changes no list and no lent box, but for the text of
+ * bgz_hatch_report.
  */
 #ifndef BAGNOSZYK_H
 #define BAGNOSZYK_H
