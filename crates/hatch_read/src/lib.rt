@@ -4,9 +4,8 @@ use hatch_format::Head;
 use hatch_format::RECORDS_AT;
 ghost use mathlib.Core.Path.{_≡_};
 ghost use mathlib.Core.List.{map};
-ghost use Prim.Native.Nat.{_+_, _*_, _≤_};
+ghost use Prim.Native.Nat.{_*_, _≤_};
 ghost use lib.ListN.{length};
-ghost use lib.Seq.{paste};
 ghost use Rattle.hatch_format.specs.Format.{hsl, rows, headOf};
 ghost use Rattle.hatch_format.specs.Decode.{floatOf, recordBitsOf, Holds};
 ghost use Rattle.hatch_read.specs.Read.{recordCountOf, withRoom, decodeInto, itself, readOf, listOf};
@@ -55,29 +54,6 @@ fn head_within(bytes: &[u8], room: usize) -> Head
     }
 }
 
-// Puts a record at the entries from `at` on.
-fn put_patterns(patterns: [u32; 8], out: &mut [u32], at: usize)
-    requires { ⌜ at + 8 ≤ length (now out) ⌝ }
-    ensures { λ _. ⌜ now (out .exit) ≡ paste (now (out .entry)) at patterns 8 ⌝ }
-{
-    let mut j = 0;
-    while j < 8 {
-        out[at + j] = patterns[j];
-        j += 1;
-    }
-}
-
-fn put_floats(floats: [f32; 8], out: &mut [f32], at: usize)
-    requires { ⌜ at + 8 ≤ length (now out) ⌝ }
-    ensures { λ _. ⌜ now (out .exit) ≡ paste (now (out .entry)) at floats 8 ⌝ }
-{
-    let mut j = 0;
-    while j < 8 {
-        out[at + j] = floats[j];
-        j += 1;
-    }
-}
-
 // Fills the first entries, eight for each record.
 fn load_patterns(bytes: &[u8], width: usize, count: usize, out: &mut [u32])
     requires { ⌜ Holds width count (now bytes) × (8 * count ≤ length (now out)) ⌝ }
@@ -85,11 +61,12 @@ fn load_patterns(bytes: &[u8], width: usize, count: usize, out: &mut [u32])
 {
     let mut i = 0;
     while i < count {
-        put_patterns(
-            hatch_format::record_bits(bytes, RECORDS_AT + width * i),
-            out,
-            8 * i,
-        );
+        let patterns = hatch_format::record_bits(bytes, RECORDS_AT + width * i);
+        let mut j = 0;
+        while j < 8 {
+            out[8 * i + j] = patterns[j];
+            j += 1;
+        }
         i += 1;
     }
 }
@@ -100,7 +77,12 @@ fn load_floats(bytes: &[u8], width: usize, count: usize, out: &mut [f32])
 {
     let mut i = 0;
     while i < count {
-        put_floats(record_floats(bytes, RECORDS_AT + width * i), out, 8 * i);
+        let floats = record_floats(bytes, RECORDS_AT + width * i);
+        let mut j = 0;
+        while j < 8 {
+            out[8 * i + j] = floats[j];
+            j += 1;
+        }
         i += 1;
     }
 }
