@@ -65,10 +65,10 @@ enum bgz_status {
     BGZ_REFUSED_NAN_LENGTH = 7,  /* a length to the turned box is NaN */
     BGZ_REFUSED_NO_IMAGE = 8,    /* a corner has no image */
     BGZ_REFUSED_INDEX = 9,       /* an index is not below the number of boxes */
-    BGZ_REFUSED_MARK = 10,       /* a hatch list: another mark, version, count or length */
-    BGZ_REFUSED_VERSION = 11,    /* a hatch list: another mark, version, count or length */
-    BGZ_REFUSED_COUNT = 12,      /* a hatch list: another mark, version, count or length */
-    BGZ_REFUSED_LENGTH = 13,     /* a hatch list: another mark, version, count or length */
+    BGZ_REFUSED_MARK = 10,       /* a hatch list does not begin with its mark */
+    BGZ_REFUSED_VERSION = 11,    /* a hatch list has an unknown version */
+    BGZ_REFUSED_COUNT = 12,      /* a hatch list has too many records */
+    BGZ_REFUSED_LENGTH = 13,     /* the bytes of a hatch list are too few or too many */
     BGZ_NONE = 255               /* no refusal, and none of what was asked for */
 };
 
@@ -96,13 +96,13 @@ static inline const char *bgz_refusal_text(uint32_t status) {
     case BGZ_REFUSED_INDEX:
         return "an index is not below the number of boxes";
     case BGZ_REFUSED_MARK:
-        return "a hatch list: another mark, version, count or length";
+        return "a hatch list does not begin with its mark";
     case BGZ_REFUSED_VERSION:
-        return "a hatch list: another mark, version, count or length";
+        return "a hatch list has an unknown version";
     case BGZ_REFUSED_COUNT:
-        return "a hatch list: another mark, version, count or length";
+        return "a hatch list has too many records";
     case BGZ_REFUSED_LENGTH:
-        return "a hatch list: another mark, version, count or length";
+        return "the bytes of a hatch list are too few or too many";
     case BGZ_NONE:
         return "no refusal, and none of what was asked for";
     default:
@@ -114,59 +114,59 @@ static inline const char *bgz_refusal_text(uint32_t status) {
 
 /* A point or a vector. */
 typedef struct bgz_vec2 {
-    float x;
-    float y;
+    float x;  /* Grows with the column. */
+    float y;  /* Grows with the row. */
 } bgz_vec2;
 
 /* The numbers from low to high. */
 typedef struct bgz_range {
-    float low;
-    float high;
+    float low;   /* The least number. */
+    float high;  /* The greatest number. */
 } bgz_range;
 
 /* An upright box: an axis-aligned bounding box by its low and its high corner. */
 typedef struct bgz_aabb2 {
-    float min_x;
-    float min_y;
-    float max_x;
-    float max_y;
+    float min_x;  /* x of the low corner. */
+    float min_y;  /* y of the low corner. */
+    float max_x;  /* x of the high corner. */
+    float max_y;  /* y of the high corner. */
 } bgz_aabb2;
 
 /* A turned box: an oriented bounding box by its centre and two half edges, u and v. */
 typedef struct bgz_obb2 {
-    float cx;
-    float cy;
-    float ux;
-    float uy;
-    float vx;
-    float vy;
+    float cx;  /* x of the centre. */
+    float cy;  /* y of the centre. */
+    float ux;  /* x of the half edge u. */
+    float uy;  /* y of the half edge u. */
+    float vx;  /* x of the half edge v. */
+    float vy;  /* y of the half edge v. */
 } bgz_obb2;
 
 /* A 3 by 3 matrix in column-major order: mRC stands in row R and column C. */
 typedef struct bgz_mat3 {
-    float m00;
-    float m10;
-    float m20;
-    float m01;
-    float m11;
-    float m21;
-    float m02;
-    float m12;
-    float m22;
+    float m00;  /* Row 0, column 0. */
+    float m10;  /* Row 1, column 0. */
+    float m20;  /* Row 2, column 0. */
+    float m01;  /* Row 0, column 1. */
+    float m11;  /* Row 1, column 1. */
+    float m21;  /* Row 2, column 1. */
+    float m02;  /* Row 0, column 2. */
+    float m12;  /* Row 1, column 2. */
+    float m22;  /* Row 2, column 2. */
 } bgz_mat3;
 
 /* A point of an edge, and its ratio along the edge. */
 typedef struct bgz_on_edge {
-    float ratio;
-    bgz_vec2 point;
+    float ratio;     /* 0 at the first end, 1 at the second. */
+    bgz_vec2 point;  /* Where it is. */
 } bgz_on_edge;
 
 /* Four corners, each joined to the next by an edge, and the last to the first. */
 typedef struct bgz_corners {
-    bgz_vec2 p0;
-    bgz_vec2 p1;
-    bgz_vec2 p2;
-    bgz_vec2 p3;
+    bgz_vec2 p0;  /* c + u + v. */
+    bgz_vec2 p1;  /* c - u + v. */
+    bgz_vec2 p2;  /* c - u - v. */
+    bgz_vec2 p3;  /* c + u - v. */
 } bgz_corners;
 
 /* ---- answers */

@@ -37,16 +37,16 @@ impl Refusal {
     /// An index is not below the number of boxes.
     pub const INDEX: Refusal = Refusal(9);
 
-    /// A hatch list: another mark, version, count or length.
+    /// A hatch list does not begin with its mark.
     pub const MARK: Refusal = Refusal(10);
 
-    /// A hatch list: another mark, version, count or length.
+    /// A hatch list has an unknown version.
     pub const VERSION: Refusal = Refusal(11);
 
-    /// A hatch list: another mark, version, count or length.
+    /// A hatch list has too many records.
     pub const COUNT: Refusal = Refusal(12);
 
-    /// A hatch list: another mark, version, count or length.
+    /// The bytes of a hatch list are too few or too many.
     pub const LENGTH: Refusal = Refusal(13);
 
     /// The number of the refusal.
@@ -75,10 +75,10 @@ impl fmt::Display for Refusal {
             Refusal::NAN_LENGTH => "a length to the turned box is NaN",
             Refusal::NO_IMAGE => "a corner has no image",
             Refusal::INDEX => "an index is not below the number of boxes",
-            Refusal::MARK => "a hatch list: another mark, version, count or length",
-            Refusal::VERSION => "a hatch list: another mark, version, count or length",
-            Refusal::COUNT => "a hatch list: another mark, version, count or length",
-            Refusal::LENGTH => "a hatch list: another mark, version, count or length",
+            Refusal::MARK => "a hatch list does not begin with its mark",
+            Refusal::VERSION => "a hatch list has an unknown version",
+            Refusal::COUNT => "a hatch list has too many records",
+            Refusal::LENGTH => "the bytes of a hatch list are too few or too many",
             Refusal(number) => return write!(f, "refusal {number}"),
         })
     }

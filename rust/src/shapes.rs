@@ -6,7 +6,9 @@
 #[derive(Clone, Copy, Debug, PartialEq)]
 #[repr(C)]
 pub struct Vec2 {
+    /// Grows with the column.
     pub x: f32,
+    /// Grows with the row.
     pub y: f32,
 }
 
@@ -28,7 +30,9 @@ impl From<Vec2> for [f32; 2] {
 #[derive(Clone, Copy, Debug, PartialEq)]
 #[repr(C)]
 pub struct Range {
+    /// The least number.
     pub low: f32,
+    /// The greatest number.
     pub high: f32,
 }
 
@@ -50,9 +54,13 @@ impl From<Range> for [f32; 2] {
 #[derive(Clone, Copy, Debug, PartialEq)]
 #[repr(C)]
 pub struct Aabb2 {
+    /// x of the low corner.
     pub min_x: f32,
+    /// y of the low corner.
     pub min_y: f32,
+    /// x of the high corner.
     pub max_x: f32,
+    /// y of the high corner.
     pub max_y: f32,
 }
 
@@ -74,11 +82,17 @@ impl From<Aabb2> for [f32; 4] {
 #[derive(Clone, Copy, Debug, PartialEq)]
 #[repr(C)]
 pub struct Obb2 {
+    /// x of the centre.
     pub cx: f32,
+    /// y of the centre.
     pub cy: f32,
+    /// x of the half edge u.
     pub ux: f32,
+    /// y of the half edge u.
     pub uy: f32,
+    /// x of the half edge v.
     pub vx: f32,
+    /// y of the half edge v.
     pub vy: f32,
 }
 
@@ -100,14 +114,23 @@ impl From<Obb2> for [f32; 6] {
 #[derive(Clone, Copy, Debug, PartialEq)]
 #[repr(C)]
 pub struct Mat3 {
+    /// Row 0, column 0.
     pub m00: f32,
+    /// Row 1, column 0.
     pub m10: f32,
+    /// Row 2, column 0.
     pub m20: f32,
+    /// Row 0, column 1.
     pub m01: f32,
+    /// Row 1, column 1.
     pub m11: f32,
+    /// Row 2, column 1.
     pub m21: f32,
+    /// Row 0, column 2.
     pub m02: f32,
+    /// Row 1, column 2.
     pub m12: f32,
+    /// Row 2, column 2.
     pub m22: f32,
 }
 
@@ -129,7 +152,9 @@ impl From<Mat3> for [f32; 9] {
 #[derive(Clone, Copy, Debug, PartialEq)]
 #[repr(C)]
 pub struct OnEdge {
+    /// 0 at the first end, 1 at the second.
     pub ratio: f32,
+    /// Where it is.
     pub point: Vec2,
 }
 
@@ -151,9 +176,13 @@ impl From<OnEdge> for [f32; 3] {
 #[derive(Clone, Copy, Debug, PartialEq)]
 #[repr(C)]
 pub struct Corners {
+    /// c + u + v.
     pub p0: Vec2,
+    /// c - u + v.
     pub p1: Vec2,
+    /// c - u - v.
     pub p2: Vec2,
+    /// c + u - v.
     pub p3: Vec2,
 }
 

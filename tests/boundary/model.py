@@ -167,11 +167,8 @@ def enums_of(source):
 
 
 def refusals_of(source):
-    """A refusal with no comment shares that of the one before."""
-    text = ""
     for comment, name, number in re.findall(COMMENT + r"pub const (\w+): u32 = (\d+);", source, re.M):
-        text = " ".join(comment_of(comment).text) or text
-        yield Refusal(name, int(number), text)
+        yield Refusal(name, int(number), " ".join(comment_of(comment).text))
 
 
 def sources():

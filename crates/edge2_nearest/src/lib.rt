@@ -6,7 +6,9 @@ ghost use Rattle.edge2_nearest.specs.Nearest.{nearestOriginOf, nearestTo
 // A point of an edge, and its ratio along the edge.
 #[repr(C)]
 pub struct OnEdge {
+    // 0 at the first end, 1 at the second.
     pub ratio: f32,
+    // Where it is.
     pub point: Vec2,
 }
 

@@ -7,9 +7,13 @@ ghost use Rattle.obb2_corners.specs.Corners.{cornerPointsOf};
 // Four corners, each joined to the next by an edge, and the last to the first.
 #[repr(C)]
 pub struct Corners {
+    // c + u + v.
     pub p0: Vec2,
+    // c - u + v.
     pub p1: Vec2,
+    // c - u - v.
     pub p2: Vec2,
+    // c + u - v.
     pub p3: Vec2,
 }
 

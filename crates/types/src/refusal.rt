@@ -18,11 +18,11 @@ pub const NAN_LENGTH: u32 = 7;
 pub const NO_IMAGE: u32 = 8;
 // An index is not below the number of boxes.
 pub const INDEX: u32 = 9;
-// A hatch list: another mark, version, count or length.
+// A hatch list does not begin with its mark.
 pub const MARK: u32 = 10;
-
+// A hatch list has an unknown version.
 pub const VERSION: u32 = 11;
-
+// A hatch list has too many records.
 pub const COUNT: u32 = 12;
-
+// The bytes of a hatch list are too few or too many.
 pub const LENGTH: u32 = 13;
