@@ -4,24 +4,6 @@ use Rattle.aabb.specs.Clip.{narrowAll, clipOver, intersectionsAgainstLin
 use Rattle.aabb.proofs.intersections_against_line.Statement.{statement}
 use Rattle.aabb.proofs.intersections_against_line.Tie as tie
 
-slab-x-requires : tie.Need-slab-x-requires
-slab-x-requires c κs = search needs
-
-all-finite-requires : tie.Need-all-finite-requires
-all-finite-requires c κs = search needs
-
-narrowed-requires : tie.Need-narrowed-requires
-narrowed-requires c κs = search needs
-
-slab-y-requires : tie.Need-slab-y-requires
-slab-y-requires c κs = search needs
-
-narrowed-requires-2 : tie.Need-narrowed-requires-2
-narrowed-requires-2 c κs = search needs
-
-ordered-requires : tie.Need-ordered-requires
-ordered-requires c κs = search needs
-
 returns : tie.Need-returns
 unfolding narrowAll clipOver intersectionsAgainstLineOf
 returns c =
@@ -37,13 +19,6 @@ returns c =
     )
 
 pub intersections-against-line-spec : {M : Type 1} → statement M
-intersections-against-line-spec =
-    tie.close
-    (tie.spec
-    slab-x-requires
-    all-finite-requires
-    narrowed-requires
-    slab-y-requires
-    narrowed-requires-2
-    ordered-requires
-    returns)
+intersections-against-line-spec = tie.close (tie.spec
+    (λ c κs. search needs) (λ c κs. search needs) (λ c κs. search needs) (λ c κs. search needs) (λ c κs. search needs)
+    (λ c κs. search needs) returns)

@@ -4,9 +4,7 @@ use lib.Ieee.{neg, div, ofBits}
 use Rattle.aabb2_change.proofs.no_points.Statement.{statement}
 use Rattle.aabb2_change.proofs.no_points.Tie as tie
 
-returns : tie.Need-returns
-unfolding neg div ofBits
-returns c = refl
-
 pub no-points-spec : {M : Type 1} → statement M
-no-points-spec = tie.close (tie.spec returns)
+unfolding neg div ofBits
+no-points-spec = tie.close (tie.spec
+    (λ c. refl))

@@ -3,15 +3,7 @@ use borrow.Author.Needs.{needs}
 use Rattle.aabb2_change.proofs.to_transformation_world2unit_ortho_preserve_asp.Statement.{statement}
 use Rattle.aabb2_change.proofs.to_transformation_world2unit_ortho_preserve_asp.Tie as tie
 
-center-requires : tie.Need-center-requires
-center-requires c κs = search needs
-
-max-edge-size-requires : tie.Need-max-edge-size-requires
-max-edge-size-requires c κs = search needs
-
-returns : tie.Need-returns
-returns c = rw (c .before .before .max-edge-size .ensures, c .before .before .before .center .ensures)
-
 pub to-transformation-world2unit-ortho-preserve-asp-spec : {M : Type 1} → statement M
-to-transformation-world2unit-ortho-preserve-asp-spec =
-    tie.close (tie.spec center-requires max-edge-size-requires returns)
+to-transformation-world2unit-ortho-preserve-asp-spec = tie.close (tie.spec
+    (λ c κs. search needs) (λ c κs. search needs)
+    (λ c. rw (c .before .before .max-edge-size .ensures, c .before .before .before .center .ensures)))

@@ -4,33 +4,6 @@ use Rattle.aabb2_change.specs.Change.{transformHomogeneousOf, withImages
 use Rattle.aabb2_change.proofs.transform_homogeneous.Statement.{statement}
 use Rattle.aabb2_change.proofs.transform_homogeneous.Tie as tie
 
-no-points-requires : tie.Need-no-points-requires
-no-points-requires c κs = search needs
-
-image-requires : tie.Need-image-requires
-image-requires c κs = search needs
-
-with-image-requires : tie.Need-with-image-requires
-with-image-requires c κs = search needs
-
-image-requires-2 : tie.Need-image-requires-2
-image-requires-2 c κs = search needs
-
-with-image-requires-2 : tie.Need-with-image-requires-2
-with-image-requires-2 c κs = search needs
-
-image-requires-3 : tie.Need-image-requires-3
-image-requires-3 c κs = search needs
-
-with-image-requires-3 : tie.Need-with-image-requires-3
-with-image-requires-3 c κs = search needs
-
-image-requires-4 : tie.Need-image-requires-4
-image-requires-4 c κs = search needs
-
-with-image-requires-4 : tie.Need-with-image-requires-4
-with-image-requires-4 c κs = search needs
-
 returns : tie.Need-returns
 unfolding transformHomogeneousOf withImages
 returns c =
@@ -50,16 +23,6 @@ returns c =
     )
 
 pub transform-homogeneous-spec : {M : Type 1} → statement M
-transform-homogeneous-spec =
-    tie.close
-    (tie.spec
-    no-points-requires
-    image-requires
-    with-image-requires
-    image-requires-2
-    with-image-requires-2
-    image-requires-3
-    with-image-requires-3
-    image-requires-4
-    with-image-requires-4
-    returns)
+transform-homogeneous-spec = tie.close (tie.spec
+    (λ c κs. search needs) (λ c κs. search needs) (λ c κs. search needs) (λ c κs. search needs) (λ c κs. search needs)
+    (λ c κs. search needs) (λ c κs. search needs) (λ c κs. search needs) (λ c κs. search needs) returns)

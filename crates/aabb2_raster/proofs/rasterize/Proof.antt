@@ -5,18 +5,6 @@ use Rattle.aabb2_raster.specs.Raster.{rasterizeOf}
 use Rattle.aabb2_raster.proofs.rasterize.Statement.{statement}
 use Rattle.aabb2_raster.proofs.rasterize.Tie as tie
 
-first-pixel-requires : tie.Need-first-pixel-requires
-first-pixel-requires c κs = search needs
-
-first-pixel-requires-2 : tie.Need-first-pixel-requires-2
-first-pixel-requires-2 c κs = search needs
-
-end-pixel-requires : tie.Need-end-pixel-requires
-end-pixel-requires c κs = search needs
-
-end-pixel-requires-2 : tie.Need-end-pixel-requires-2
-end-pixel-requires-2 c κs = search needs
-
 returns : tie.Need-returns
 unfolding rasterizeOf
 returns c =
@@ -38,13 +26,5 @@ unfolding rasterizeOf
 returns-3 c = rw (lt-leb _ _ (c .if1 .left))
 
 pub rasterize-spec : {M : Type 1} → statement M
-rasterize-spec =
-    tie.close
-    (tie.spec
-    first-pixel-requires
-    first-pixel-requires-2
-    end-pixel-requires
-    end-pixel-requires-2
-    returns
-    returns-2
-    returns-3)
+rasterize-spec = tie.close (tie.spec
+    (λ c κs. search needs) (λ c κs. search needs) (λ c κs. search needs) (λ c κs. search needs) returns returns-2 returns-3)

@@ -12,8 +12,6 @@ returns c = above (c .before .args .bits) (c .if1 .taken)
 float-from-bits-result : tie.Need-float-from-bits-result
 float-from-bits-result c = below (c .before .args .bits) (c .if1 .left)
 
-returns-2 : tie.Need-returns-2
-returns-2 c = search needs
-
 pub of-bits-spec : {M : Type 1} → statement M
-of-bits-spec = tie.close (tie.spec returns float-from-bits-result returns-2)
+of-bits-spec = tie.close (tie.spec
+    returns float-from-bits-result (λ c. search needs))

@@ -6,17 +6,12 @@ use Rattle.bits.proofs.Nan.{quiet}
 use Rattle.bits.proofs.to_bits.Statement.{statement}
 use Rattle.bits.proofs.to_bits.Tie as tie
 
-is-nan-requires : tie.Need-is-nan-requires
-is-nan-requires c κs = search needs
-
 float-to-bits-result : tie.Need-float-to-bits-result
 float-to-bits-result c = number (c .before .before .args .x) (sym (c .before .is-nan .ensures) ∙ c .if1 .left)
 
 returns : tie.Need-returns
 returns c = quiet (c .before .before .args .x) (sym (c .before .is-nan .ensures) ∙ c .if1 .taken)
 
-returns-2 : tie.Need-returns-2
-returns-2 c = search needs
-
 pub to-bits-spec : {M : Type 1} → statement M
-to-bits-spec = tie.close (tie.spec is-nan-requires float-to-bits-result returns returns-2)
+to-bits-spec = tie.close (tie.spec
+    (λ c κs. search needs) float-to-bits-result returns (λ c. search needs))

@@ -5,20 +5,11 @@ use Rattle.c_answers.specs.Answers.{ofListed}
 use Rattle.c_aabb2.proofs.bgz_aabb2_overlapping_tiles.Statement.{statement}
 use Rattle.c_aabb2.proofs.bgz_aabb2_overlapping_tiles.Tie as tie
 
-overlapping-tiles-requires : tie.Need-overlapping-tiles-requires
-overlapping-tiles-requires c κs = search needs
-
-listed-requires : tie.Need-listed-requires
-listed-requires c κs = search needs
-
-same-length : tie.Need-same-length
-same-length c = search needs
-
 returns : tie.Need-returns
 returns c =
     let told = c .before .before .before .overlapping-tiles .ensures in
     (c .listed .ensures ∙ ap ofListed (told .answers), rw (told .answers) at told)
 
 pub bgz-aabb2-overlapping-tiles-spec : {M : Type 1} → statement M
-bgz-aabb2-overlapping-tiles-spec =
-    tie.close (tie.spec overlapping-tiles-requires listed-requires same-length returns)
+bgz-aabb2-overlapping-tiles-spec = tie.close (tie.spec
+    (λ c κs. search needs) (λ c κs. search needs) (λ c. search needs) returns)

@@ -5,20 +5,11 @@ use Rattle.c_answers.specs.Answers.{ofListed}
 use Rattle.c_edge2.proofs.bgz_edge2_overlapping_pixels_dda.Statement.{statement}
 use Rattle.c_edge2.proofs.bgz_edge2_overlapping_pixels_dda.Tie as tie
 
-overlapping-pixels-dda-requires : tie.Need-overlapping-pixels-dda-requires
-overlapping-pixels-dda-requires c κs = search needs
-
-listed-requires : tie.Need-listed-requires
-listed-requires c κs = search needs
-
-same-length : tie.Need-same-length
-same-length c = search needs
-
 returns : tie.Need-returns
 returns c =
     let told = c .before .before .before .overlapping-pixels-dda .ensures in
     (c .listed .ensures ∙ ap ofListed (told .answers), rw (told .answers) at told)
 
 pub bgz-edge2-overlapping-pixels-dda-spec : {M : Type 1} → statement M
-bgz-edge2-overlapping-pixels-dda-spec =
-    tie.close (tie.spec overlapping-pixels-dda-requires listed-requires same-length returns)
+bgz-edge2-overlapping-pixels-dda-spec = tie.close (tie.spec
+    (λ c κs. search needs) (λ c κs. search needs) (λ c. search needs) returns)

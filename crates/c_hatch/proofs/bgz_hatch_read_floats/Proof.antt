@@ -5,20 +5,11 @@ use Rattle.c_hatch.specs.Answer.{ofRead}
 use Rattle.c_hatch.proofs.bgz_hatch_read_floats.Statement.{statement}
 use Rattle.c_hatch.proofs.bgz_hatch_read_floats.Tie as tie
 
-read-floats-requires : tie.Need-read-floats-requires
-read-floats-requires c κs = search needs
-
-read-requires : tie.Need-read-requires
-read-requires c κs = search needs
-
-same-length : tie.Need-same-length
-same-length c = search needs
-
 returns : tie.Need-returns
 returns c =
     let told = c .before .before .before .read-floats .ensures in
     (c .read .ensures ∙ ap ofRead (told .0), told .1)
 
 pub bgz-hatch-read-floats-spec : {M : Type 1} → statement M
-bgz-hatch-read-floats-spec =
-    tie.close (tie.spec read-floats-requires read-requires same-length returns)
+bgz-hatch-read-floats-spec = tie.close (tie.spec
+    (λ c κs. search needs) (λ c κs. search needs) (λ c. search needs) returns)

@@ -4,15 +4,6 @@ use Rattle.edge2_nearest.specs.Nearest.{nearestToPointOf}
 use Rattle.edge2_nearest.proofs.nearest_to_point.Statement.{statement}
 use Rattle.edge2_nearest.proofs.nearest_to_point.Tie as tie
 
-sub-requires : tie.Need-sub-requires
-sub-requires c κs = search needs
-
-sub-requires-2 : tie.Need-sub-requires-2
-sub-requires-2 c κs = search needs
-
-nearest-origin-requires : tie.Need-nearest-origin-requires
-nearest-origin-requires c κs = search needs
-
 returns : tie.Need-returns
 unfolding nearestToPointOf
 returns c =
@@ -20,5 +11,5 @@ returns c =
     rw (near .nearest-origin .ensures, near .before .sub2 .ensures, near .before .before .sub .ensures)
 
 pub nearest-to-point-spec : {M : Type 1} → statement M
-nearest-to-point-spec =
-    tie.close (tie.spec sub-requires sub-requires-2 nearest-origin-requires returns)
+nearest-to-point-spec = tie.close (tie.spec
+    (λ c κs. search needs) (λ c κs. search needs) (λ c κs. search needs) returns)

@@ -4,18 +4,6 @@ use Rattle.hatch_read.proofs.Room.{stays-refused, no-room, has-room}
 use Rattle.hatch_read.proofs.head_within.Statement.{statement}
 use Rattle.hatch_read.proofs.head_within.Tie as tie
 
-slice-aggregate-head-of : tie.Need-slice-aggregate-head-of
-slice-aggregate-head-of c = search needs
-
-head-of-requires : tie.Need-head-of-requires
-head-of-requires c κs = search needs
-
-enum-known-number : tie.Need-enum-known-number
-enum-known-number c = search needs
-
-enum-known-row : tie.Need-enum-known-row
-enum-known-row c = search needs
-
 returns : tie.Need-returns
 returns c = stays-refused _ (c .before .before .before .head-of .ensures) (c .before .number .given .1)
 
@@ -30,4 +18,5 @@ returns-3 c =
     has-room _ (accepted .before .before .head-of .ensures) (accepted .row .given .1) (c .if1 .left)
 
 pub head-within-spec : {M : Type 1} → statement M
-head-within-spec = tie.close (tie.spec slice-aggregate-head-of head-of-requires enum-known-number enum-known-row returns returns-2 returns-3)
+head-within-spec = tie.close (tie.spec
+    (λ c. search needs) (λ c κs. search needs) (λ c. search needs) (λ c. search needs) returns returns-2 returns-3)

@@ -4,31 +4,6 @@ use Rattle.obb2_point.specs.Point.{nearestPoint2Of}
 use Rattle.obb2_point.proofs.nearest_point2.Statement.{statement}
 use Rattle.obb2_point.proofs.nearest_point2.Tie as tie
 
-is-include-point2-requires : tie.Need-is-include-point2-requires
-is-include-point2-requires c κs = search needs
-
-returns : tie.Need-returns
-unfolding nearestPoint2Of
-returns c = rw (← c .before .is-include-point2 .ensures, c .if1 .taken)
-
-corner-points-requires : tie.Need-corner-points-requires
-corner-points-requires c κs = search needs
-
-on-edge-requires : tie.Need-on-edge-requires
-on-edge-requires c κs = search needs
-
-on-edge-requires-2 : tie.Need-on-edge-requires-2
-on-edge-requires-2 c κs = search needs
-
-on-edge-requires-3 : tie.Need-on-edge-requires-3
-on-edge-requires-3 c κs = search needs
-
-on-edge-requires-4 : tie.Need-on-edge-requires-4
-on-edge-requires-4 c κs = search needs
-
-chosen-requires : tie.Need-chosen-requires
-chosen-requires c κs = search needs
-
 returns-2 : tie.Need-returns-2
 unfolding nearestPoint2Of
 returns-2 c =
@@ -44,15 +19,9 @@ returns-2 c =
     )
 
 pub nearest-point2-spec : {M : Type 1} → statement M
-nearest-point2-spec =
-    tie.close
-    (tie.spec
-    is-include-point2-requires
-    returns
-    corner-points-requires
-    on-edge-requires
-    on-edge-requires-2
-    on-edge-requires-3
-    on-edge-requires-4
-    chosen-requires
-    returns-2)
+unfolding nearestPoint2Of
+nearest-point2-spec = tie.close (tie.spec
+    (λ c κs. search needs)
+    (λ c. rw (← c .before .is-include-point2 .ensures, c .if1 .taken))
+    (λ c κs. search needs) (λ c κs. search needs) (λ c κs. search needs) (λ c κs. search needs) (λ c κs. search needs)
+    (λ c κs. search needs) returns-2)

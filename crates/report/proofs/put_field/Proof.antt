@@ -5,15 +5,6 @@ use Rattle.report.specs.Report.{fieldOf}
 use Rattle.report.proofs.put_field.Statement.{statement}
 use Rattle.report.proofs.put_field.Tie as tie
 
-put-byte-requires : tie.Need-put-byte-requires
-put-byte-requires c κs = search needs
-
-put-decimal-requires : tie.Need-put-decimal-requires
-put-decimal-requires c κs = search needs
-
-same-length : tie.Need-same-length
-same-length c = search needs
-
 returns : tie.Need-returns
 unfolding fieldOf
 returns c =
@@ -21,5 +12,5 @@ returns c =
     one (number .before .before .before .before .put-byte .ensures) (number .put-decimal .ensures)
 
 pub put-field-spec : {M : Type 1} → statement M
-put-field-spec =
-    tie.close (tie.spec put-byte-requires put-decimal-requires same-length returns)
+put-field-spec = tie.close (tie.spec
+    (λ c κs. search needs) (λ c κs. search needs) (λ c. search needs) returns)

@@ -9,31 +9,10 @@ use Rattle.report.proofs.Room.{reports, refusal, records}
 use Rattle.report.proofs.report.Statement.{statement}
 use Rattle.report.proofs.report.Tie as tie
 
-slice-aggregate-head-of : tie.Need-slice-aggregate-head-of
-slice-aggregate-head-of c = search needs
-
-head-of-requires : tie.Need-head-of-requires
-head-of-requires c κs = search needs
-
-enum-known-number : tie.Need-enum-known-number
-enum-known-number c = search needs
-
-put-refusal-requires : tie.Need-put-refusal-requires
-put-refusal-requires c κs = search needs
-
-enum-known-row : tie.Need-enum-known-row
-enum-known-row c = search needs
-
-put-opening-requires : tie.Need-put-opening-requires
-put-opening-requires c κs = search needs
-
 put-lines-requires : tie.Need-put-lines-requires
 put-lines-requires c κs =
     let accepted = c .before .before .before .before .before .before in
     held hsl _ _ _ (sym (accepted .before .before .head-of .ensures) ∙ accepted .row .given .1)
-
-same-length : tie.Need-same-length
-same-length c = search needs
 
 returns : tie.Need-returns
 returns c =
@@ -41,9 +20,6 @@ returns c =
     let refused = put .before .before .before in
     let told = reports _ _ _ _ (same (refusal _ (refused .before .before .head-of .ensures) (refused .number .given .1)) (put .put-refusal .ensures)) in
     (told .0, (told .1 .0, omega (arith, told .1 .1)))
-
-same-length-2 : tie.Need-same-length-2
-same-length-2 c = search needs
 
 returns-2 : tie.Need-returns-2
 returns-2 c =
@@ -55,17 +31,6 @@ returns-2 c =
     (told .0, (told .1 .0, omega (arith, told .1 .1)))
 
 pub report-spec : {M : Type 1} → statement M
-report-spec =
-    tie.close
-    (tie.spec
-    slice-aggregate-head-of
-    head-of-requires
-    enum-known-number
-    put-refusal-requires
-    enum-known-row
-    put-opening-requires
-    put-lines-requires
-    same-length
-    returns
-    same-length-2
-    returns-2)
+report-spec = tie.close (tie.spec
+    (λ c. search needs) (λ c κs. search needs) (λ c. search needs) (λ c κs. search needs) (λ c. search needs) (λ c κs. search needs)
+    put-lines-requires (λ c. search needs) returns (λ c. search needs) returns-2)

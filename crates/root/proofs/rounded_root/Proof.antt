@@ -4,12 +4,6 @@ use Rattle.root.proofs.Rounding.{up, down}
 use Rattle.root.proofs.rounded_root.Statement.{statement}
 use Rattle.root.proofs.rounded_root.Tie as tie
 
-digits-requires : tie.Need-digits-requires
-digits-requires c κs = search needs
-
-add-result : tie.Need-add-result
-add-result c = search needs
-
 returns : tie.Need-returns
 returns c =
     let s = c .before .before .before .before in
@@ -21,4 +15,5 @@ returns-2 c =
     down (s .args .n) (s .pre .0) (s .pre .1) (c .before .before .digits .ensures) (c .if1 .left)
 
 pub rounded-root-spec : {M : Type 1} → statement M
-rounded-root-spec = tie.close (tie.spec digits-requires add-result returns returns-2)
+rounded-root-spec = tie.close (tie.spec
+    (λ c κs. search needs) (λ c. search needs) returns returns-2)

@@ -15,9 +15,6 @@ whole-part-requires : tie.Need-whole-part-requires
 unfolding ofBits
 whole-part-requires c κs = (c .before .if1 .taken, c .if2 .taken)
 
-cast-result : tie.Need-cast-result
-cast-result c = search needs
-
 truncating-f32-to-u64-requires : tie.Need-truncating-f32-to-u64-requires
 unfolding ofBits
 truncating-f32-to-u64-requires c κs =
@@ -26,9 +23,6 @@ truncating-f32-to-u64-requires c κs =
 
 returns : tie.Need-returns
 returns c = c .whole-part .ensures ∙ unsigned 32 (lit≤ tt) (small (c .before)) ∙ sym (unsigned 64 (lit≤ tt) (small (c .before)))
-
-returns-2 : tie.Need-returns-2
-returns-2 c = c .truncating-f32-to-u64 .ensures
 
 returns-3 : tie.Need-returns-3
 unfolding ofBits
@@ -39,13 +33,7 @@ unfolding ofBits
 returns-4 c = unsigned-none 64 (c .before .args .x) (c .if1 .left)
 
 pub to-usize-spec : {M : Type 1} → statement M
-to-usize-spec =
-    tie.close
-    (tie.spec
-    whole-part-requires
-    cast-result
-    truncating-f32-to-u64-requires
-    returns
-    returns-2
-    returns-3
-    returns-4)
+to-usize-spec = tie.close (tie.spec
+    whole-part-requires (λ c. search needs) truncating-f32-to-u64-requires returns
+    (λ c. c .truncating-f32-to-u64 .ensures)
+    returns-3 returns-4)

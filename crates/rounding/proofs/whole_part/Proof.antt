@@ -14,9 +14,6 @@ held c = subst T (sym (c .good .0 .1)) tt
 float-to-bits-bits : tie.Need-float-to-bits-bits
 float-to-bits-bits c = is-no-nan (c .args .x) (held c) (c .pre .0) (c .pre .1)
 
-add-result : tie.Need-add-result
-add-result c = search needs
-
 sub-result : tie.Need-sub-result
 sub-result c = omega (arith, field-high (c .args .x) (held c) (c .pre .0) (c .pre .1))
 
@@ -27,4 +24,5 @@ returns : tie.Need-returns
 returns c = whole-part (c .args .x) (held c) (c .pre .0) (c .pre .1)
 
 pub whole-part-spec : {M : Type 1} → statement M
-whole-part-spec = tie.close (tie.spec float-to-bits-bits add-result sub-result shr-result returns)
+whole-part-spec = tie.close (tie.spec
+    float-to-bits-bits (λ c. search needs) sub-result shr-result returns)

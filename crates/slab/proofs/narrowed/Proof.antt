@@ -5,31 +5,6 @@ use Rattle.slab.specs.Clip.{narrowedOf, atLow, atHigh}
 use Rattle.slab.proofs.narrowed.Statement.{statement}
 use Rattle.slab.proofs.narrowed.Tie as tie
 
-enum-told : tie.Need-enum-told
-enum-told c = search needs
-
-enum-known-i : tie.Need-enum-known-i
-enum-known-i c = search needs
-
-number-or-requires : tie.Need-number-or-requires
-number-or-requires c κs = search needs
-
-lesser-requires : tie.Need-lesser-requires
-lesser-requires c κs = search needs
-
-max-requires : tie.Need-max-requires
-max-requires c κs = search needs
-
-greater-requires : tie.Need-greater-requires
-greater-requires c κs = search needs
-
-min-requires : tie.Need-min-requires
-min-requires c κs = search needs
-
-returns : tie.Need-returns
-unfolding narrowedOf
-returns c = rw (c .enum-told .given .1)
-
 returns-2 : tie.Need-returns-2
 unfolding narrowedOf
 returns-2 c =
@@ -68,18 +43,9 @@ returns-5 c =
     simp (e .before .before .before .i .given .1, e .if1 .left, o .if2 .left, c .if3 .left)
 
 pub narrowed-spec : {M : Type 1} → statement M
-narrowed-spec =
-    tie.close
-    (tie.spec
-    enum-told
-    enum-known-i
-    number-or-requires
-    lesser-requires
-    max-requires
-    greater-requires
-    min-requires
-    returns
-    returns-2
-    returns-3
-    returns-4
-    returns-5)
+unfolding narrowedOf
+narrowed-spec = tie.close (tie.spec
+    (λ c. search needs) (λ c. search needs) (λ c κs. search needs) (λ c κs. search needs) (λ c κs. search needs)
+    (λ c κs. search needs) (λ c κs. search needs)
+    (λ c. rw (c .enum-told .given .1))
+    returns-2 returns-3 returns-4 returns-5)

@@ -5,9 +5,6 @@ use Rattle.text.specs.Page.{nextOf}
 use Rattle.text.proofs.next.Statement.{statement}
 use Rattle.text.proofs.next.Tie as tie
 
-add-result : tie.Need-add-result
-add-result c = search needs
-
 returns : tie.Need-returns
 unfolding nextOf
 returns c = simp (lt-ltb _ _ (c .if1 .taken))
@@ -17,4 +14,5 @@ unfolding nextOf
 returns-2 c = simp (le-ltb _ _ (c .if1 .left))
 
 pub next-spec : {M : Type 1} → statement M
-next-spec = tie.close (tie.spec add-result returns returns-2)
+next-spec = tie.close (tie.spec
+    (λ c. search needs) returns returns-2)

@@ -3,18 +3,6 @@ use borrow.Author.Needs.{needs}
 use Rattle.tiles.proofs.bad_box.Statement.{statement}
 use Rattle.tiles.proofs.bad_box.Tie as tie
 
-bad-coordinate-requires : tie.Need-bad-coordinate-requires
-bad-coordinate-requires c κs = search needs
-
-bad-coordinate-requires-2 : tie.Need-bad-coordinate-requires-2
-bad-coordinate-requires-2 c κs = search needs
-
-bad-coordinate-requires-3 : tie.Need-bad-coordinate-requires-3
-bad-coordinate-requires-3 c κs = search needs
-
-bad-coordinate-requires-4 : tie.Need-bad-coordinate-requires-4
-bad-coordinate-requires-4 c κs = search needs
-
 returns : tie.Need-returns
 returns c =
     rw (
@@ -25,4 +13,5 @@ returns c =
     )
 
 pub bad-box-spec : {M : Type 1} → statement M
-bad-box-spec = tie.close (tie.spec bad-coordinate-requires bad-coordinate-requires-2 bad-coordinate-requires-3 bad-coordinate-requires-4 returns)
+bad-box-spec = tie.close (tie.spec
+    (λ c κs. search needs) (λ c κs. search needs) (λ c κs. search needs) (λ c κs. search needs) returns)

@@ -47,16 +47,10 @@ found c = record {
 
 -- ---- the needs
 
-bad-sheet-requires : tie.Need-bad-sheet-requires
-bad-sheet-requires c κs = search needs
-
 returns : tie.Need-returns
 returns c =
     let s = c .before .before .before in
     refused-sheet (sheet-of s) (s .args .b) (s .args .out .now) (sym (c .before .bad-sheet .ensures) ∙ c .if1 .taken)
-
-bad-box-requires : tie.Need-bad-box-requires
-bad-box-requires c κs = search needs
 
 returns-2 : tie.Need-returns-2
 returns-2 c =
@@ -91,9 +85,6 @@ write-rows-requires c κs =
     let o = on-sheet (found (c .before .before .before .before .before)) (c .before .if4 .left) in
     (o .0, o .1, o .2, c .before .before .if3 .left)
 
-same-length : tie.Need-same-length
-same-length c = search needs
-
 returns-5 : tie.Need-returns-5
 returns-5 c =
     let w = c .before .before .write-rows in
@@ -101,18 +92,6 @@ returns-5 c =
     filled (found d) (start d .args .out .now) (w .last .0) (floats (start d)) (c .before .before .before .before .before .if3 .left) (w .ensures)
 
 pub overlapping-tiles-spec : {M : Type 1} → statement M
-overlapping-tiles-spec =
-    tie.close
-    (tie.spec
-    bad-sheet-requires
-    returns
-    bad-box-requires
-    returns-2
-    places-requires
-    places-requires-2
-    mul-count
-    returns-3
-    returns-4
-    write-rows-requires
-    same-length
-    returns-5)
+overlapping-tiles-spec = tie.close (tie.spec
+    (λ c κs. search needs) returns (λ c κs. search needs) returns-2 places-requires places-requires-2 mul-count returns-3 returns-4
+    write-rows-requires (λ c. search needs) returns-5)

@@ -28,9 +28,6 @@ returns : tie.Need-returns
 unfolding ofBits
 returns c = sym (quotient (c .before .before) .minus-past (c .if1 .taken))
 
-to-usize-requires : tie.Need-to-usize-requires
-to-usize-requires c κs = tt
-
 add-result : tie.Need-add-result
 add-result c = omega (arith, quotient (c .before .before .before) .whole-le)
 
@@ -41,4 +38,7 @@ returns-2 c =
     add-one (n .result) ∙ ap suc (n .ensures) ∙ quotient (c .before .before .before) .plus-past (c .before .if1 .left)
 
 pub past-place-spec : {M : Type 1} → statement M
-past-place-spec = tie.close (tie.spec int-to-float-q returns to-usize-requires add-result returns-2)
+past-place-spec = tie.close (tie.spec
+    int-to-float-q returns
+    (λ c κs. tt)
+    add-result returns-2)

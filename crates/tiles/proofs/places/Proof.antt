@@ -12,21 +12,6 @@ past-less-one : (z : ℤ) → past z - 1 ≡ from z
 past-less-one (pos n) = omega arith
 past-less-one (negsuc n) = refl
 
-past-place-requires : tie.Need-past-place-requires
-past-place-requires c κs = search needs
-
-saturating-sub-requires : tie.Need-saturating-sub-requires
-saturating-sub-requires c κs = search needs
-
-past-place-requires-2 : tie.Need-past-place-requires-2
-past-place-requires-2 c κs = search needs
-
-lesser-requires : tie.Need-lesser-requires
-lesser-requires c κs = search needs
-
-saturating-sub-requires-2 : tie.Need-saturating-sub-requires-2
-saturating-sub-requires-2 c κs = search needs
-
 returns : tie.Need-returns
 returns c =
     let s = c .before .before .before .before .before .args in
@@ -36,4 +21,5 @@ returns c =
     (first, rw (c .saturating-sub2 .ensures, c .before .lesser .ensures, c .before .before .past-place2 .ensures, first))
 
 pub places-spec : {M : Type 1} → statement M
-places-spec = tie.close (tie.spec past-place-requires saturating-sub-requires past-place-requires-2 lesser-requires saturating-sub-requires-2 returns)
+places-spec = tie.close (tie.spec
+    (λ c κs. search needs) (λ c κs. search needs) (λ c κs. search needs) (λ c κs. search needs) (λ c κs. search needs) returns)

@@ -16,17 +16,11 @@ returns c =
     let a = c .before .before .args in
     rw (lt-ltb (length (now (a .bytes))) (a .at + 32) (omega arith))
 
-sub-if2 : tie.Need-sub-if2
-sub-if2 c = search needs
-
 returns-2 : tie.Need-returns-2
 unfolding recordBitsOf
 returns-2 c =
     let a = c .before .before .before .args in
     rw (lt-ltb (length (now (a .bytes))) (a .at + 32) (omega arith))
-
-words-requires : tie.Need-words-requires
-words-requires c κs = search needs
 
 returns-3 : tie.Need-returns-3
 unfolding recordBitsOf
@@ -35,4 +29,5 @@ returns-3 c =
     c .words .ensures ∙ sym (rw (le-ltb (length (now (a .bytes))) (a .at + 32) (omega arith)) refl)
 
 pub record-bits-spec : {M : Type 1} → statement M
-record-bits-spec = tie.close (tie.spec returns sub-if2 returns-2 words-requires returns-3)
+record-bits-spec = tie.close (tie.spec
+    returns (λ c. search needs) returns-2 (λ c κs. search needs) returns-3)

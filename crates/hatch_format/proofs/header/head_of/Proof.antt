@@ -12,9 +12,6 @@ use Rattle.hatch_format.proofs.Opening.{other-mark, too-short, by-layou
 use Rattle.hatch_format.proofs.header.head_of.Statement.{statement}
 use Rattle.hatch_format.proofs.header.head_of.Tie as tie
 
-starts-with-requires : tie.Need-starts-with-requires
-starts-with-requires c κs = search needs
-
 returns : tie.Need-returns
 returns c = other-mark _ rows _ (sym (c .before .starts-with .ensures) ∙ not-true _ (c .if1 .taken))
 
@@ -24,21 +21,6 @@ marked c = sym (c .before .starts-with .ensures) ∙ not-false _ (c .if1 .left)
 
 returns-2 : tie.Need-returns-2
 returns-2 c = too-short _ rows _ (marked (c .before)) (c .if2 .taken)
-
-half-requires : tie.Need-half-requires
-half-requires c κs = search needs
-
-half-requires-2 : tie.Need-half-requires-2
-half-requires-2 c κs = search needs
-
-layout-of-requires : tie.Need-layout-of-requires
-layout-of-requires c κs = search needs
-
-enum-told : tie.Need-enum-told
-enum-told c = search needs
-
-enum-known-row : tie.Need-enum-known-row
-enum-known-row c = search needs
 
 sized-requires : tie.Need-sized-requires
 sized-requires c κs =
@@ -66,17 +48,6 @@ returns-4 c =
     (sym (known .row .given .1) ∙ layout .layout-of .ensures) (c .sized .ensures)
 
 pub head-of-spec : {M : Type 1} → statement M
-head-of-spec =
-    tie.close
-    (tie.spec
-    starts-with-requires
-    returns
-    returns-2
-    half-requires
-    half-requires-2
-    layout-of-requires
-    enum-told
-    enum-known-row
-    sized-requires
-    returns-3
-    returns-4)
+head-of-spec = tie.close (tie.spec
+    (λ c κs. search needs) returns returns-2 (λ c κs. search needs) (λ c κs. search needs) (λ c κs. search needs)
+    (λ c. search needs) (λ c. search needs) sized-requires returns-3 returns-4)

@@ -7,24 +7,6 @@ use Rattle.obb2_intersect.proofs.Promised.{aabb2-promised}
 use Rattle.obb2_intersect.proofs.intersect.is_intersect_aabb2.Statement.{statement}
 use Rattle.obb2_intersect.proofs.intersect.is_intersect_aabb2.Tie as tie
 
-across-requires : tie.Need-across-requires
-across-requires c κs = search needs
-
-across-requires-2 : tie.Need-across-requires-2
-across-requires-2 c κs = search needs
-
-corners-requires : tie.Need-corners-requires
-corners-requires c κs = search needs
-
-upright-corners-requires : tie.Need-upright-corners-requires
-upright-corners-requires c κs = search needs
-
-first-separating-requires : tie.Need-first-separating-requires
-first-separating-requires c κs = search needs
-
-is-none-requires : tie.Need-is-none-requires
-is-none-requires c κs = search needs
-
 returns : tie.Need-returns
 unfolding isIntersectAabb2Of meets
 returns c =
@@ -40,13 +22,6 @@ returns c =
     (first-none _ _))
 
 pub is-intersect-aabb2-spec : {M : Type 1} → statement M
-is-intersect-aabb2-spec =
-    tie.close
-    (tie.spec
-    across-requires
-    across-requires-2
-    corners-requires
-    upright-corners-requires
-    first-separating-requires
-    is-none-requires
-    returns)
+is-intersect-aabb2-spec = tie.close (tie.spec
+    (λ c κs. search needs) (λ c κs. search needs) (λ c κs. search needs) (λ c κs. search needs) (λ c κs. search needs)
+    (λ c κs. search needs) returns)

@@ -7,30 +7,6 @@ use Rattle.obb2_intersect.proofs.Promised.{obb2-promised}
 use Rattle.obb2_intersect.proofs.intersect.is_intersect_obb2.Statement.{statement}
 use Rattle.obb2_intersect.proofs.intersect.is_intersect_obb2.Tie as tie
 
-across-requires : tie.Need-across-requires
-across-requires c κs = search needs
-
-across-requires-2 : tie.Need-across-requires-2
-across-requires-2 c κs = search needs
-
-across-requires-3 : tie.Need-across-requires-3
-across-requires-3 c κs = search needs
-
-across-requires-4 : tie.Need-across-requires-4
-across-requires-4 c κs = search needs
-
-corners-requires : tie.Need-corners-requires
-corners-requires c κs = search needs
-
-corners-requires-2 : tie.Need-corners-requires-2
-corners-requires-2 c κs = search needs
-
-first-separating-requires : tie.Need-first-separating-requires
-first-separating-requires c κs = search needs
-
-is-none-requires : tie.Need-is-none-requires
-is-none-requires c κs = search needs
-
 returns : tie.Need-returns
 unfolding isIntersectObb2Of meets
 returns c =
@@ -48,15 +24,6 @@ returns c =
     (first-none _ _))
 
 pub is-intersect-obb2-spec : {M : Type 1} → statement M
-is-intersect-obb2-spec =
-    tie.close
-    (tie.spec
-    across-requires
-    across-requires-2
-    across-requires-3
-    across-requires-4
-    corners-requires
-    corners-requires-2
-    first-separating-requires
-    is-none-requires
-    returns)
+is-intersect-obb2-spec = tie.close (tie.spec
+    (λ c κs. search needs) (λ c κs. search needs) (λ c κs. search needs) (λ c κs. search needs) (λ c κs. search needs)
+    (λ c κs. search needs) (λ c κs. search needs) (λ c κs. search needs) returns)

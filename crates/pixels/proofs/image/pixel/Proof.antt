@@ -10,12 +10,6 @@ use Rattle.pixels.proofs.image.pixel.Tie as tie
 small : (c : tie.After-cut2) → c .before .cut .result * c .before .before .args .width ≤ 196610 * 16384
 small c = mul-le-mul (c .before .cut .ensures .1) (c .before .before .pre .0)
 
-cut-requires : tie.Need-cut-requires
-cut-requires c κs = search needs
-
-cut-requires-2 : tie.Need-cut-requires-2
-cut-requires-2 c κs = search needs
-
 mul-result : tie.Need-mul-result
 mul-result c = omega (arith, small c)
 
@@ -25,10 +19,8 @@ add-result c = omega (arith, small c)
 cast-result : tie.Need-cast-result
 cast-result c = omega (arith, small c)
 
-returns : tie.Need-returns
-unfolding number
-returns c = rw (c .before .cut .ensures .0, c .cut2 .ensures .0)
-
 pub pixel-spec : {M : Type 1} → statement M
-pixel-spec =
-    tie.close (tie.spec cut-requires cut-requires-2 mul-result add-result cast-result returns)
+unfolding number
+pixel-spec = tie.close (tie.spec
+    (λ c κs. search needs) (λ c κs. search needs) mul-result add-result cast-result
+    (λ c. rw (c .before .cut .ensures .0, c .cut2 .ensures .0)))

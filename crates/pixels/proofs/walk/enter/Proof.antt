@@ -7,12 +7,6 @@ use lib.ListN.{length}
 use Rattle.pixels.proofs.walk.enter.Statement.{statement}
 use Rattle.pixels.proofs.walk.enter.Tie as tie
 
-in-sides-requires : tie.Need-in-sides-requires
-in-sides-requires c κs = search needs
-
-pixel-requires : tie.Need-pixel-requires
-pixel-requires c κs = search needs
-
 room : (c : tie.After-pixel) → c .before .before .before .before .args .n < length (c .before .before .before .before .args .list .now)
 room c = c .before .before .before .before .pre .2 (sym (c .before .before .in-sides .ensures) ∙ c .before .if1 .taken)
 
@@ -25,9 +19,6 @@ slice-write-list c = room c
 add-result : tie.Need-add-result
 add-result c = omega (arith, room c)
 
-same-length : tie.Need-same-length
-same-length c = search needs
-
 returns : tie.Need-returns
 returns c = let g = sym (c .before .before .in-sides .ensures) ∙ c .before .if1 .taken in simp (g, c .pixel .ensures) (refl, refl)
 
@@ -35,14 +26,5 @@ returns-2 : tie.Need-returns-2
 returns-2 c = let g = sym (c .before .in-sides .ensures) ∙ c .if1 .left in simp g (omega arith, refl)
 
 pub enter-spec : {M : Type 1} → statement M
-enter-spec =
-    tie.close
-    (tie.spec
-    in-sides-requires
-    pixel-requires
-    mul-list
-    slice-write-list
-    add-result
-    same-length
-    returns
-    returns-2)
+enter-spec = tie.close (tie.spec
+    (λ c κs. search needs) (λ c κs. search needs) mul-list slice-write-list add-result (λ c. search needs) returns returns-2)

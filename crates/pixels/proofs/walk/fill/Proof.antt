@@ -7,17 +7,11 @@ use Rattle.pixels.proofs.Answers.{with-room, without-room}
 use Rattle.pixels.proofs.walk.fill.Statement.{statement}
 use Rattle.pixels.proofs.walk.fill.Tie as tie
 
-measure-requires : tie.Need-measure-requires
-measure-requires c κs = search needs
-
 write-requires : tie.Need-write-requires
 write-requires c κs =
     let t = c .before in
     let e = t .before .measure .ensures in
     (t .before .before .before .pre, rw (e .steps-is) (exit-le _ _), ltb-true _ _ (sym (e .fits-is) ∙ t .if1 .taken))
-
-same-length : tie.Need-same-length
-same-length c = search needs
 
 returns : tie.Need-returns
 returns c =
@@ -35,4 +29,5 @@ returns-2 c =
     (sym (e .ensures .fits-is) ∙ c .if1 .left)
 
 pub fill-spec : {M : Type 1} → statement M
-fill-spec = tie.close (tie.spec measure-requires write-requires same-length returns returns-2)
+fill-spec = tie.close (tie.spec
+    (λ c κs. search needs) write-requires (λ c. search needs) returns returns-2)

@@ -9,9 +9,6 @@ use Rattle.pixels.specs.Post.{entered}
 use Rattle.pixels.proofs.walk.measure.Statement.{statement}
 use Rattle.pixels.proofs.walk.measure.Tie as tie
 
-exit-of-requires : tie.Need-exit-of-requires
-exit-of-requires c κs = search needs
-
 returns : tie.Need-returns
 returns c =
     let s = c .before .before .before .args in
@@ -22,11 +19,6 @@ returns c =
       fits-is = sym (lt-ltb (length (entered (s .width) (s .height) (s .a) (s .b) (k .result))) (s .room) (omega arith));
     }
 
-measure-counting-requires : tie.Need-measure-counting-requires
-measure-counting-requires c κs = search needs
-
-returns-2 : tie.Need-returns-2
-returns-2 c = search needs
-
 pub measure-spec : {M : Type 1} → statement M
-measure-spec = tie.close (tie.spec exit-of-requires returns measure-counting-requires returns-2)
+measure-spec = tie.close (tie.spec
+    (λ c κs. search needs) returns (λ c κs. search needs) (λ c. search needs))

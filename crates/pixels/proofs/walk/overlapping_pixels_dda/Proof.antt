@@ -49,16 +49,10 @@ made c =
       b-is = c .axis-of2 .ensures ∙ ap (λ (z : Float). axisOf z (s .p0 .y) (s .p1 .y)) e;
     }
 
-sides-too-large-requires : tie.Need-sides-too-large-requires
-sides-too-large-requires c κs = search needs
-
 returns : tie.Need-returns
 returns c =
     let s = c .before .before .before .args in
     refused-sides (s .width) (s .height) (s .p0) (s .p1) (s .list .now) (sym (c .before .sides-too-large .ensures) ∙ c .if1 .taken)
-
-first-offender-requires : tie.Need-first-offender-requires
-first-offender-requires c κs = search needs
 
 returns-2 : tie.Need-returns-2
 returns-2 c =
@@ -66,23 +60,11 @@ returns-2 c =
     refused-coordinate (s .width) (s .height) (s .p0) (s .p1) (s .list .now) (sides (c .before .before))
     (ap (λ (n : ℕ). ltb n 4) (sym (c .before .first-offender .ensures)) ∙ lt-ltb _ _ (c .if2 .taken))
 
-same-ends-requires : tie.Need-same-ends-requires
-same-ends-requires c κs = search needs
-
 returns-3 : tie.Need-returns-3
 returns-3 c =
     let s = c .before .before .before .before .before .before .before .args in
     refused-same (s .width) (s .height) (s .p0) (s .p1) (s .list .now) (sides (c .before .before .before .before)) (fit (c .before .before))
     (sym (c .before .same-ends .ensures) ∙ c .if3 .taken)
-
-step-of-requires : tie.Need-step-of-requires
-step-of-requires c κs = search needs
-
-axis-of-requires : tie.Need-axis-of-requires
-axis-of-requires c κs = search needs
-
-axis-of-requires-2 : tie.Need-axis-of-requires-2
-axis-of-requires-2 c κs = search needs
 
 cut-requires : tie.Need-cut-requires
 cut-requires c κs =
@@ -91,17 +73,11 @@ cut-requires c κs =
     let e = c .before .before .step-of in
     subst (Size 196610) (sym (e .ensures)) (size-wider 131072 196610 (stepOf (s .p0) (s .p1)) (lit≤ tt) (step-size (accepted-at v)))
 
-add-guess : tie.Need-add-guess
-add-guess c = search needs
-
 fill-requires : tie.Need-fill-requires
 fill-requires c κs =
     let v = c .before .before .before .before .before in
     let m = made (c .before .before) in
     made-drawn m (accepted-at v) (sides (v .before .before .before .before))
-
-same-length : tie.Need-same-length
-same-length c = search needs
 
 returns-4 : tie.Need-returns-4
 returns-4 c =
@@ -115,20 +91,6 @@ returns-4 c =
     (made-listing m (s .width) (s .height) (s .list .now) (f .result) (f .last .0) (f .ensures))
 
 pub overlapping-pixels-dda-spec : {M : Type 1} → statement M
-overlapping-pixels-dda-spec =
-    tie.close
-    (tie.spec
-    sides-too-large-requires
-    returns
-    first-offender-requires
-    returns-2
-    same-ends-requires
-    returns-3
-    step-of-requires
-    axis-of-requires
-    axis-of-requires-2
-    cut-requires
-    add-guess
-    fill-requires
-    same-length
-    returns-4)
+overlapping-pixels-dda-spec = tie.close (tie.spec
+    (λ c κs. search needs) returns (λ c κs. search needs) returns-2 (λ c κs. search needs) returns-3 (λ c κs. search needs)
+    (λ c κs. search needs) (λ c κs. search needs) cut-requires (λ c. search needs) fill-requires (λ c. search needs) returns-4)

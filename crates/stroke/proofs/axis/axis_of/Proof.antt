@@ -4,15 +4,8 @@ use Rattle.stroke.specs.Walk.{axisOf}
 use Rattle.stroke.proofs.axis.axis_of.Statement.{statement}
 use Rattle.stroke.proofs.axis.axis_of.Tie as tie
 
-min-requires : tie.Need-min-requires
-min-requires c κs = search needs
-
-max-requires : tie.Need-max-requires
-max-requires c κs = search needs
-
-returns : tie.Need-returns
-unfolding axisOf
-returns c = rw (c .max .ensures, c .before .min .ensures)
-
 pub axis-of-spec : {M : Type 1} → statement M
-axis-of-spec = tie.close (tie.spec min-requires max-requires returns)
+unfolding axisOf
+axis-of-spec = tie.close (tie.spec
+    (λ c κs. search needs) (λ c κs. search needs)
+    (λ c. rw (c .max .ensures, c .before .min .ensures)))

@@ -17,29 +17,17 @@ y0 c = sym (c .before .within-limit2 .ensures) ∙ not-false _ (c .if2 .left)
 x1 : (c : tie.Else3) → withinLimit (c .before .before .before .before .before .before .args .p1 .x) ≡ true
 x1 c = sym (c .before .within-limit3 .ensures) ∙ not-false _ (c .if3 .left)
 
-within-limit-requires : tie.Need-within-limit-requires
-within-limit-requires c κs = search needs
-
 returns : tie.Need-returns
 unfolding firstOffender
 returns c = rw (sym (c .before .within-limit .ensures) ∙ not-true _ (c .if1 .taken))
-
-within-limit-requires-2 : tie.Need-within-limit-requires-2
-within-limit-requires-2 c κs = search needs
 
 returns-2 : tie.Need-returns-2
 unfolding firstOffender
 returns-2 c = rw (x0 (c .before .before), sym (c .before .within-limit2 .ensures) ∙ not-true _ (c .if2 .taken))
 
-within-limit-requires-3 : tie.Need-within-limit-requires-3
-within-limit-requires-3 c κs = search needs
-
 returns-3 : tie.Need-returns-3
 unfolding firstOffender
 returns-3 c = rw (x0 (c .before .before .before .before), y0 (c .before .before), sym (c .before .within-limit3 .ensures) ∙ not-true _ (c .if3 .taken))
-
-within-limit-requires-4 : tie.Need-within-limit-requires-4
-within-limit-requires-4 c κs = search needs
 
 returns-4 : tie.Need-returns-4
 unfolding firstOffender
@@ -62,15 +50,6 @@ returns-5 c =
     )
 
 pub first-offender-spec : {M : Type 1} → statement M
-first-offender-spec =
-    tie.close
-    (tie.spec
-    within-limit-requires
-    returns
-    within-limit-requires-2
-    returns-2
-    within-limit-requires-3
-    returns-3
-    within-limit-requires-4
-    returns-4
-    returns-5)
+first-offender-spec = tie.close (tie.spec
+    (λ c κs. search needs) returns (λ c κs. search needs) returns-2 (λ c κs. search needs) returns-3 (λ c κs. search needs)
+    returns-4 returns-5)

@@ -6,9 +6,6 @@ use Rattle.stroke.specs.Steps.{stepsOn}
 use Rattle.stroke.proofs.walk.steps_on.Statement.{statement}
 use Rattle.stroke.proofs.walk.steps_on.Tie as tie
 
-in-ranges-requires : tie.Need-in-ranges-requires
-in-ranges-requires c κs = search needs
-
 returns : tie.Need-returns
 unfolding stepsOn
 returns c = rw (lt-ltb (c .before .before .args .k) mostSteps (c .before .if1 .taken), c .in-ranges .ensures)
@@ -18,4 +15,5 @@ unfolding stepsOn
 returns-2 c = rw (le-ltb (c .before .args .k) mostSteps (c .if1 .left))
 
 pub steps-on-spec : {M : Type 1} → statement M
-steps-on-spec = tie.close (tie.spec in-ranges-requires returns returns-2)
+steps-on-spec = tie.close (tie.spec
+    (λ c κs. search needs) returns returns-2)
