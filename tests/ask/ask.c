@@ -44,6 +44,13 @@ static bool is_damaged(const uint32_t *list, size_t written, size_t room) {
     return false;
 }
 
+bool is_empty(const struct routine *routine, const struct answer *answer) {
+    for (size_t i = 0; routine->gives[i] != '\0'; i++)
+        if (routine->gives[i] == 'f' ? answer->values[i].f != 0 : answer->values[i].u != 0)
+            return false;
+    return true;
+}
+
 /* The floats that are no list's, and the place of the first room among the whole numbers. */
 static size_t single_floats(const char *takes) {
     size_t count = 0;
@@ -61,7 +68,7 @@ static size_t place_of_room(const char *takes) {
 
 struct reply ask(const struct routine *routine, const float *floats, size_t float_count, const uint64_t *wholes) {
     struct arguments in = {.floats = floats, .wholes = wholes};
-    struct reply reply = {.list = NULL, .damaged = false};
+    struct reply reply = {.list = NULL};
     if (routine->lists[0] == 'F') {
         size_t single = single_floats(routine->takes);
         in.lists[0] = (struct list){(void *)(floats + single), float_count - single};
@@ -71,9 +78,9 @@ struct reply ask(const struct routine *routine, const float *floats, size_t floa
         in.lists[0].start = reply.list = lend(in.lists[0].length);
     }
     routine->call(&in, &reply.answer);
-    if (reply.list != NULL) {
-        size_t written = reply.answer.status == BGZ_ANSWERED ? reply.answer.values[0].u : 0;
-        reply.damaged = is_damaged(reply.list, written, in.lists[0].length);
-    }
+    bool answered = reply.answer.status == BGZ_ANSWERED;
+    reply.damaged = !answered && !is_empty(routine, &reply.answer);
+    if (reply.list != NULL)
+        reply.damaged |= is_damaged(reply.list, answered ? reply.answer.values[0].u : 0, in.lists[0].length);
     return reply;
 }

@@ -10,7 +10,7 @@ struct reply {
     struct answer answer;
     /* The list that was lent, if one was; the asker frees it. */
     uint32_t *list;
-    /* An entry was touched that should not have been. */
+    /* Something was touched that should not have been: an entry of a list, a lent shape in a refused call. */
     bool damaged;
 };
 
@@ -31,6 +31,9 @@ extern const size_t ask_sizes[3];
 
 /* The routine of this name, or null. */
 const struct routine *routine_named(const char *name);
+
+/* Whether every number of an answer is 0, as in one that is none or a refusal. */
+bool is_empty(const struct routine *routine, const struct answer *answer);
 
 /* Calls a routine. A list that it writes to is lent with a pattern in every entry, and looked at afterwards. */
 struct reply ask(const struct routine *routine, const float *floats, size_t float_count, const uint64_t *wholes);

@@ -109,18 +109,11 @@ static size_t written(const struct caller *caller, const struct answer *out, siz
     return caller->routine->lists[i] == 'b' && out->values[0].u < length ? out->values[0].u : length;
 }
 
-static bool is_zero(const struct routine *routine, const struct answer *out) {
-    for (size_t i = 0; routine->gives[i] != '\0'; i++)
-        if (routine->gives[i] == 'f' ? out->values[i].f != 0 : out->values[i].u != 0)
-            return false;
-    return true;
-}
-
 /* A known status; nothing beside a refusal; lists as they were but for what was to be written. */
 static void look(const struct caller *caller, const struct answer *out) {
     const struct routine *routine = caller->routine;
     hold(caller, out->status <= last_refusal || out->status == BGZ_NONE, "a status that the header does not have");
-    hold(caller, out->status == BGZ_ANSWERED || is_zero(routine, out), "a refusal with an answer");
+    hold(caller, out->status == BGZ_ANSWERED || is_empty(routine, out), "a refusal with an answer");
     for (size_t i = 0; routine->lists[i] != '\0'; i++) {
         const struct list *list = &caller->in.lists[i];
         size_t bytes = bytes_of(caller, i);
