@@ -10,7 +10,7 @@ ghost use lib.ListN.{length, take};
 ghost use Rattle.lists.specs.Lent.{written};
 ghost use Rattle.hatch_format.specs.Format.{hsl, rows};
 ghost use Rattle.hatch_format.specs.Decode.{floatOf};
-ghost use Rattle.hatch_read.specs.Read.{recordCountOf, decodeInto, itself, readOf, listOf};
+ghost use Rattle.hatch_read.specs.Read.{recordCountOf, decodeInto, itself, readOf, readLeaves};
 ghost use Rattle.report.specs.Report.{reportOf};
 ghost use Rattle.c_hatch.specs.Answer.{ofRead};
 
@@ -22,7 +22,7 @@ ghost use Rattle.c_hatch.specs.Answer.{ofRead};
 #[no_mangle]
 pub extern "C" fn bgz_hatch_read_floats(bytes: &[u8], out: &mut [f32]) -> ReadAnswer
     ensures answers { λ r. ⌜ r ≡ ofRead (readOf (decodeInto hsl rows (length (now (out .entry))) (now (bytes .entry)))) ⌝ }
-    ensures leaves { λ r. ⌜ now (out .exit) ≡ listOf floatOf (decodeInto hsl rows (length (now (out .entry))) (now (bytes .entry))) (now (out .entry)) ⌝ }
+    ensures leaves { λ r. ⌜ now (out .exit) ≡ readLeaves floatOf (decodeInto hsl rows (length (now (out .entry))) (now (bytes .entry))) (now (out .entry)) ⌝ }
 {
     crate::answer::read(hatch_read::read_floats(bytes, out))
 }
@@ -34,7 +34,7 @@ pub extern "C" fn bgz_hatch_read_floats(bytes: &[u8], out: &mut [f32]) -> ReadAn
 #[no_mangle]
 pub extern "C" fn bgz_hatch_read_patterns(bytes: &[u8], out: &mut [u32]) -> ReadAnswer
     ensures answers { λ r. ⌜ r ≡ ofRead (readOf (decodeInto hsl rows (length (now (out .entry))) (now (bytes .entry)))) ⌝ }
-    ensures leaves { λ r. ⌜ now (out .exit) ≡ listOf itself (decodeInto hsl rows (length (now (out .entry))) (now (bytes .entry))) (now (out .entry)) ⌝ }
+    ensures leaves { λ r. ⌜ now (out .exit) ≡ readLeaves itself (decodeInto hsl rows (length (now (out .entry))) (now (bytes .entry))) (now (out .entry)) ⌝ }
 {
     crate::answer::read(hatch_read::read_patterns(bytes, out))
 }

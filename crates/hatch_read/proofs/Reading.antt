@@ -16,7 +16,7 @@ use Rattle.hatch_format.proofs.Records.{held}
 use Rattle.hatch_format.specs.declared.header.Row.{Row}
 use Rattle.hatch_format.specs.declared.header.Head.{Head}
 use Rattle.hatch_format.specs.declared.header.Head.the-variants as head
-use Rattle.hatch_read.specs.Read.{withRoom, decodeInto, readOf, listOf}
+use Rattle.hatch_read.specs.Read.{withRoom, decodeInto, readOf, readLeaves}
 use Rattle.hatch_read.specs.Loading.{entryAt, filled}
 use Rattle.hatch_read.specs.declared.Read.the-variants.{Refused, Accepted}
 
@@ -57,15 +57,15 @@ module _ (b : List ℕ) (room : ℕ) {h : Head} (is : h ≡ withRoom room (headO
       (held hsl b r n (x .0), x .1)
 
   module _ {A : Type 0} (f : ℕ → A) (l : List A) where
-    pub refuses : {k : ℕ} → h ≡ head.Refused k → (Refused k ≡ readOf (decodeInto hsl rows room b)) × (l ≡ listOf f (decodeInto hsl rows room b) l)
-    unfolding decodeInto bodyOf readOf listOf
+    pub refuses : {k : ℕ} → h ≡ head.Refused k → (Refused k ≡ readOf (decodeInto hsl rows room b)) × (l ≡ readLeaves f (decodeInto hsl rows room b) l)
+    unfolding decodeInto bodyOf readOf readLeaves
     refuses e =
         let x = sym e ∙ is in
-        (ap (λ (h : Head). readOf (bodyOf h b)) x, ap (λ (h : Head). listOf f (bodyOf h b) l) x)
+        (ap (λ (h : Head). readOf (bodyOf h b)) x, ap (λ (h : Head). readLeaves f (bodyOf h b) l) x)
 
     pub accepts : {r : Row} {n : ℕ} → h ≡ head.Accepted r n
-        → (Accepted (r .version) n ≡ readOf (decodeInto hsl rows room b)) × (filled f (r .width) b (8 * n) l ≡ listOf f (decodeInto hsl rows room b) l)
-    unfolding decodeInto bodyOf readOf listOf
+        → (Accepted (r .version) n ≡ readOf (decodeInto hsl rows room b)) × (filled f (r .width) b (8 * n) l ≡ readLeaves f (decodeInto hsl rows room b) l)
+    unfolding decodeInto bodyOf readOf readLeaves
     accepts {r} {n} e =
         let x = sym e ∙ is in
-        (ap (λ (h : Head). readOf (bodyOf h b)) x, filled-written f (r .width) b (8 * n) l ∙ ap (λ (h : Head). listOf f (bodyOf h b) l) x)
+        (ap (λ (h : Head). readOf (bodyOf h b)) x, filled-written f (r .width) b (8 * n) l ∙ ap (λ (h : Head). readLeaves f (bodyOf h b) l) x)

@@ -32,9 +32,9 @@ readOf (refused number) = Refused number
 readOf (accepted version n ps) = Accepted version n
 
 -- the lent list afterwards: the floats' bits, each through f, in its first entries
-unfoldable pub listOf : {A : Type 0} → (ℕ → A) → Answer → List A → List A
-listOf f (refused number) l = l
-listOf f (accepted version n ps) l = written (map f ps) l
+unfoldable pub readLeaves : {A : Type 0} → (ℕ → A) → Answer → List A → List A
+readLeaves f (refused number) l = l
+readLeaves f (accepted version n ps) l = written (map f ps) l
 
 -- f for a list of the bits; for a list of floats it is `floatOf`
 abbrev pub itself : ℕ → ℕ

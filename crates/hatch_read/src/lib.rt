@@ -8,7 +8,7 @@ ghost use Prim.Native.Nat.{_*_, _≤_};
 ghost use lib.ListN.{length};
 ghost use Rattle.hatch_format.specs.Format.{hsl, rows, headOf};
 ghost use Rattle.hatch_format.specs.Decode.{floatOf, recordBitsOf, Holds};
-ghost use Rattle.hatch_read.specs.Read.{recordCountOf, withRoom, decodeInto, itself, readOf, listOf};
+ghost use Rattle.hatch_read.specs.Read.{recordCountOf, withRoom, decodeInto, itself, readOf, readLeaves};
 ghost use Rattle.hatch_read.specs.Loading.{filled};
 
 // What became of a file. On a refusal the list keeps its contents.
@@ -90,7 +90,7 @@ fn load_floats(bytes: &[u8], width: usize, count: usize, out: &mut [f32])
 // Reads each float as its bits, the stored form of a record: only there a NaN keeps its bits.
 pub fn read_patterns(bytes: &[u8], out: &mut [u32]) -> Read
     ensures { λ r. ⌜ r ≡ readOf (decodeInto hsl rows (length (now (out .entry))) (now (bytes .entry))) ⌝ }
-    ensures { λ r. ⌜ now (out .exit) ≡ listOf itself (decodeInto hsl rows (length (now (out .entry))) (now (bytes .entry))) (now (out .entry)) ⌝ }
+    ensures { λ r. ⌜ now (out .exit) ≡ readLeaves itself (decodeInto hsl rows (length (now (out .entry))) (now (bytes .entry))) (now (out .entry)) ⌝ }
 {
     match head_within(bytes, out.len()) {
         Head::Refused(number) => Read::Refused(number),
@@ -107,7 +107,7 @@ pub fn read_patterns(bytes: &[u8], out: &mut [u32]) -> Read
 // Reads the floats whose bits these are; every NaN pattern gives the one NaN.
 pub fn read_floats(bytes: &[u8], out: &mut [f32]) -> Read
     ensures { λ r. ⌜ r ≡ readOf (decodeInto hsl rows (length (now (out .entry))) (now (bytes .entry))) ⌝ }
-    ensures { λ r. ⌜ now (out .exit) ≡ listOf floatOf (decodeInto hsl rows (length (now (out .entry))) (now (bytes .entry))) (now (out .entry)) ⌝ }
+    ensures { λ r. ⌜ now (out .exit) ≡ readLeaves floatOf (decodeInto hsl rows (length (now (out .entry))) (now (bytes .entry))) (now (out .entry)) ⌝ }
 {
     match head_within(bytes, out.len()) {
         Head::Refused(number) => Read::Refused(number),
