@@ -11,6 +11,7 @@ use lib.ListN.{length, getD, replicate, List·getD-append}
 use lib.Seq.{getD-at}
 use borrow.Author.Tests.{le-ltb}
 use Rattle.lists.specs.Places.{upto}
+use Rattle.lists.proofs.Entries.{getD-upto, getD-mapped}
 use Rattle.lists.proofs.Fill.{length-upto}
 use Rattle.hatch_format.specs.Bytes.{halfAt, wordFrom}
 use Rattle.hatch_format.specs.Format.{rows, headOf}
@@ -25,19 +26,6 @@ pub held : (mark b : List ℕ) (r : Row) (n : ℕ) → headOf mark rows b ≡ Ac
 held mark b r n e =
     let f = accepted-file mark rows b r n e in
     record { whole = f .whole; wide = found Fine rows (halfAt b 3) r fine (f .row) .0 .wide }
-
-pub getD-upto : {A : Type 0} (f : ℕ → A) (d : A) (n i : ℕ) → i < n → getD (upto f n) i d ≡ f i
-unfolding upto
-getD-upto f d zero i h = absurd (omega arith)
-getD-upto f d (suc n) i h = elim (decLe n i) [
-  | yes a ↦ let e : n ≡ i = omega arith in getD-at (upto f n) (f n) [] d i (length-upto f n ∙ e) ∙ ap f e
-  | no b ↦ List·getD-append (upto f n) (f n ∷ []) d i (omega (arith, length-upto f n)) ∙ getD-upto f d n i (omega arith)
-]
-
-pub getD-mapped : {A B : Type 0} (f : A → B) (d : B) (e : A) (l : List A) (i : ℕ) → i < length l → getD (map f l) i d ≡ f (getD l i e)
-getD-mapped f d e [] i h = absurd (omega arith)
-getD-mapped f d e (x ∷ l) zero h = refl
-getD-mapped f d e (x ∷ l) (suc i) h = getD-mapped f d e l i (omega arith)
 
 pub record-length : (b : List ℕ) (at : ℕ) → length (recordBitsOf b at) ≡ 8
 unfolding recordBitsOf

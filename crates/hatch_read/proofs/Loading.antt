@@ -8,12 +8,7 @@ use lib.Seq.{ext-getD, drop-append-add, drop-drop}
 use Rattle.lists.specs.Places.{upto}
 use Rattle.lists.proofs.Fill.{length-upto, fill-more}
 use Rattle.hatch_format.specs.Decode.{patternAt}
-use Rattle.hatch_format.proofs.Records.{getD-upto}
 use Rattle.hatch_read.specs.Loading.{entryAt, filled}
-
--- a list by its entries
-pub listed : {A : Type 0} (d : A) (e : ℕ → A) (s : List A) → ((j : ℕ) → j < length s → getD s j d ≡ e j) → s ≡ upto e (length s)
-listed d e s h = ext-getD d s (upto e (length s)) (sym (length-upto e (length s))) λ j g. h j g ∙ sym (getD-upto e d (length s) j g)
 
 -- float j of record i, stored after those before it
 pub more : {A : Type 0} (d : A) (f : ℕ → A) (width i j : ℕ) (b : List ℕ) (l : List A) {v : A} → v ≡ f (patternAt width b (8 * i + j)) → 8 * i + j < length l

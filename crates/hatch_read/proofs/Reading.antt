@@ -9,6 +9,7 @@ use lib.ListN.{length, drop, length-map}
 use borrow.Author.Tests.{ltb-false}
 use Rattle.lists.specs.Places.{upto}
 use Rattle.lists.specs.Lent.{written}
+use Rattle.lists.proofs.Entries.{map-upto}
 use Rattle.lists.proofs.Fill.{length-upto}
 use Rattle.hatch_format.specs.Format.{hsl, rows, headOf}
 use Rattle.hatch_format.specs.Decode.{patternAt, bodyOf, Holds}
@@ -19,15 +20,6 @@ use Rattle.hatch_format.specs.declared.header.Head.the-variants as head
 use Rattle.hatch_read.specs.Read.{withRoom, decodeInto, readOf, readLeaves}
 use Rattle.hatch_read.specs.Loading.{entryAt, filled}
 use Rattle.hatch_read.specs.declared.Read.the-variants.{Refused, Accepted}
-
-map-append : {A B : Type 0} (f : A → B) (s t : List A) → map f (s ++ t) ≡ map f s ++ map f t
-map-append f [] t = refl
-map-append f (x ∷ s) t = ap (λ (r : List _). f x ∷ r) (map-append f s t)
-
-map-upto : {A B : Type 0} (f : A → B) (g : ℕ → A) (n : ℕ) → map f (upto g n) ≡ upto (λ (k : ℕ). f (g k)) n
-unfolding upto
-map-upto f g zero = refl
-map-upto f g (suc n) = map-append f (upto g n) (g n ∷ []) ∙ ap (λ (r : List _). r ++ (f (g n) ∷ [])) (map-upto f g n)
 
 -- the loop has written the file's floats
 filled-written : {A : Type 0} (f : ℕ → A) (width : ℕ) (b : List ℕ) (k : ℕ) (l : List A) → filled f width b k l ≡ written (map f (upto (patternAt width b) k)) l

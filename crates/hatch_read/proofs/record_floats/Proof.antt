@@ -9,8 +9,8 @@ use lib.Ieee.{Float, nan}
 use Rattle.lists.specs.Places.{upto}
 use Rattle.lists.proofs.Fill.{fill-none, fill-more}
 use Rattle.hatch_format.specs.Decode.{floatOf, recordBitsOf}
-use Rattle.hatch_format.proofs.Records.{record-length, getD-mapped}
-use Rattle.hatch_read.proofs.Loading.{listed}
+use Rattle.hatch_format.proofs.Records.{record-length}
+use Rattle.lists.proofs.Entries.{getD-mapped, listed}
 use Rattle.hatch_read.proofs.record_floats.Statement.{statement}
 use Rattle.hatch_read.proofs.record_floats.Tie as tie
 
