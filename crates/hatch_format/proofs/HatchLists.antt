@@ -8,8 +8,6 @@ use Rattle.hatch_format.specs.Format.{hsl, rows, layoutOf, headOf}
 use Rattle.hatch_format.specs.Decode.{accepted, bodyOf, decode}
 use Rattle.hatch_format.specs.HatchList.{HatchList, Accepts, AcceptsOnly}
 use Rattle.hatch_format.specs.declared.header.Row.{Row}
-use Rattle.hatch_format.specs.declared.header.Layout.{Layout}
-use Rattle.hatch_format.specs.declared.header.Layout.the-variants.{Known}
 use Rattle.hatch_format.specs.declared.header.Head.{Head}
 use Rattle.hatch_format.specs.declared.header.Head.the-variants.{Refused, Accepted}
 use Rattle.hatch_format.proofs.Table.{Each, found}

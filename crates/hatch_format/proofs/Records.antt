@@ -1,14 +1,12 @@
 -- The records of an accepted file, read one at a time. Assumes nothing.
 use mathlib.Core.Path.{_≡_, refl, sym, ap, _∙_}
 use mathlib.Core.Bool.{Bool, true, false, cond}
-use mathlib.Core.List.{List, [], _∷_, _++_, map}
-use Prim.Native.Nat.{ℕ, zero, suc, _+_, _*_, _/_, _%_, _<_, _≤_}
-use native.Mathlib.Decide.{decLe}
+use mathlib.Core.List.{List, map}
+use Prim.Native.Nat.{ℕ, _+_, _*_, _/_, _%_, _<_, _≤_}
 use native.Mathlib.Omega.{arith}
 use native.Mathlib.Nat.{mul-le-mul-left, mul-add, mul-one}
 use lib.Dec.{ltb}
-use lib.ListN.{length, getD, replicate, List·getD-append}
-use lib.Seq.{getD-at}
+use lib.ListN.{length, getD, replicate}
 use borrow.Author.Tests.{le-ltb}
 use Rattle.lists.specs.Places.{upto}
 use Rattle.lists.proofs.Entries.{getD-upto, getD-mapped}

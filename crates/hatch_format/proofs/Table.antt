@@ -1,5 +1,5 @@
 -- A row that is found in a table: what holds of each row holds of it, and its version is the one looked for. Assumes nothing.
-use mathlib.Core.Path.{_≡_, refl, ap, _∙_, subst}
+use mathlib.Core.Path.{_≡_, refl, subst}
 use mathlib.Core.Bool.{Bool, true, false, cond}
 use mathlib.Core.List.{List, [], _∷_}
 use Prim.Native.Nat.{ℕ, _<_, _≤_}
@@ -8,7 +8,7 @@ use lib.Dec.{eqb, lit≤}
 use borrow.Author.Tests.{eqb-true}
 use Rattle.hatch_format.specs.Format.{rows, layoutOf}
 use Rattle.hatch_format.specs.declared.header.Row.{Row}
-use Rattle.hatch_format.specs.declared.header.Layout.the-variants.{Unknown, Known}
+use Rattle.hatch_format.specs.declared.header.Layout.the-variants.{Known}
 
 unfoldable pub Each : (Row → Type 0) → List Row → Type 0
 Each P [] = Unit

@@ -1,10 +1,10 @@
 -- A lent list that is filled with the floats of a file, record after record, each through f. Assumes nothing.
 use mathlib.Core.Path.{_≡_, refl, sym, ap, _∙_}
 use mathlib.Core.List.{List, _++_}
-use Prim.Native.Nat.{ℕ, _+_, _*_, _<_, _≤_}
+use Prim.Native.Nat.{ℕ, _+_, _*_, _<_}
 use native.Mathlib.Omega.{arith}
-use lib.ListN.{length, getD, set, drop}
-use lib.Seq.{ext-getD, drop-append-add, drop-drop}
+use lib.ListN.{length, set, drop}
+use lib.Seq.{drop-append-add, drop-drop}
 use Rattle.lists.specs.Places.{upto}
 use Rattle.lists.proofs.Fill.{length-upto, fill-more}
 use Rattle.hatch_format.specs.Decode.{patternAt}

@@ -1,11 +1,11 @@
 -- What a reader does, by what it found the header to be. Assumes nothing.
 use mathlib.Core.Path.{_≡_, refl, sym, ap, _∙_, subst}
 use mathlib.Core.Bool.{Bool, true, false, cond}
-use mathlib.Core.List.{List, [], _∷_, _++_, map}
-use Prim.Native.Nat.{ℕ, zero, suc, _*_, _≤_}
+use mathlib.Core.List.{List, _++_, map}
+use Prim.Native.Nat.{ℕ, _*_, _≤_}
 use native.Mathlib.Omega.{arith}
 use lib.Dec.{ltb}
-use lib.ListN.{length, drop, length-map}
+use lib.ListN.{drop, length-map}
 use borrow.Author.Tests.{ltb-false}
 use Rattle.lists.specs.Places.{upto}
 use Rattle.lists.specs.Lent.{written}
@@ -18,7 +18,7 @@ use Rattle.hatch_format.specs.declared.header.Row.{Row}
 use Rattle.hatch_format.specs.declared.header.Head.{Head}
 use Rattle.hatch_format.specs.declared.header.Head.the-variants as head
 use Rattle.hatch_read.specs.Read.{withRoom, decodeInto, readOf, readLeaves}
-use Rattle.hatch_read.specs.Loading.{entryAt, filled}
+use Rattle.hatch_read.specs.Loading.{filled}
 use Rattle.hatch_read.specs.declared.Read.the-variants.{Refused, Accepted}
 
 -- the loop has written the file's floats

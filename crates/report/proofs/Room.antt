@@ -11,7 +11,7 @@ use Rattle.types.specs.declared.answer.Interval.the-variants.{Miss, Hit}
 use Rattle.text.specs.Page.{Page, page, Adds}
 use Rattle.text.specs.Ascii.{ascii}
 use Rattle.text.specs.Numbers.{decimal, hex8}
-use Rattle.text.proofs.Laws.{same, whole}
+use Rattle.text.proofs.Laws.{whole}
 use Rattle.text.proofs.Decimal.{decimal-4}
 use Rattle.hatch_format.specs.Format.{hsl, rows, headOf}
 use Rattle.hatch_format.specs.Decode.{Answer, refused, accepted, bodyOf, decode, patternsOf, floatOf}
@@ -19,7 +19,7 @@ use Rattle.hatch_format.proofs.Bounds.{Bounded, bounded}
 use Rattle.hatch_format.specs.declared.header.Row.{Row}
 use Rattle.hatch_format.specs.declared.header.Head.{Head}
 use Rattle.hatch_format.specs.declared.header.Head.the-variants as head
-use Rattle.report.specs.Report.{clipAt, shown, fieldOf, endOf, lineOf, linesOf, openingOf, refusalOf, textOf, reportOf}
+use Rattle.report.specs.Report.{clipAt, fieldOf, endOf, lineOf, linesOf, openingOf, refusalOf, textOf, reportOf}
 
 end-length : (x : Float) → length (endOf x) ≡ 9
 unfolding endOf hex8

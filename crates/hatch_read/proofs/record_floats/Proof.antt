@@ -4,7 +4,7 @@ use mathlib.Core.List.{List, map, _++_}
 use Prim.Native.Nat.{ℕ, _-_, _≤_}
 use native.Mathlib.Omega.{arith}
 use denote.Ref.{now}
-use lib.ListN.{length, getD, drop, replicate, length-map}
+use lib.ListN.{length, getD, drop, length-map}
 use lib.Ieee.{Float, nan}
 use Rattle.lists.specs.Places.{upto}
 use Rattle.lists.proofs.Fill.{fill-none, fill-more}

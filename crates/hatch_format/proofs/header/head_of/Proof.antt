@@ -1,7 +1,6 @@
 -- `hatch_format::header::head_of` meets its contract: each answer is what `headOf` picks by the tests that led there. Assumes nothing.
 use mathlib.Core.Path.{_≡_, refl, sym, _∙_}
 use mathlib.Core.Bool.{true}
-use native.Mathlib.Omega.{arith}
 use denote.Ref.{now}
 use borrow.Author.Needs.{needs}
 use borrow.Author.Tests.{not-true, not-false}
