@@ -50,7 +50,7 @@ extern "C" {
 #define BGZ_HATCH_RECORDS_MAX 2000       /* The most records of a hatch list. */
 #define BGZ_HATCH_FLOATS_MAX 16000       /* Room for the floats of any hatch list. */
 #define BGZ_HATCH_BYTES_MAX 64007        /* The bytes of the longest hatch list. */
-#define BGZ_HATCH_REPORT_MAX 52904       /* The bytes of the longest report. */
+#define BGZ_HATCH_REPORT_MAX 54014       /* Room for any report: none has more bytes. */
 
 /* ---- the status of an answer */
 
@@ -277,7 +277,7 @@ uint32_t bgz_f32_to_u32(float x);
 size_t bgz_f32_to_usize(float x);
 
 /*
- * The float nearest to the square root. A zero and +infinity give themselves; any other x below 0 gives a NaN.
+ * The float nearest to the square root. A zero and +infinity give themselves; an x below 0 and a NaN give a NaN.
  * Example: 2.25 gives 1.5.
  */
 float bgz_f32_sqrt(float x);
@@ -640,7 +640,8 @@ bool bgz_obb2_is_intersect_aabb2(bgz_obb2 o, bgz_aabb2 b);
  */
 
 /*
- * Reads the floats of the records of a hatch list. A float may have any bits; every NaN is read as a NaN of any bits.
+ * Reads the floats of the records of a hatch list. A float may have any bits; a NaN is read as a NaN, whose bits may
+ * differ.
  * Writes the 8 * count floats to the start of out and answers version and count.
  * Refused: BGZ_REFUSED_MARK if the bytes do not begin with "HSL"; BGZ_REFUSED_LENGTH if they are fewer than 7;
  * BGZ_REFUSED_VERSION if the version is not 1; BGZ_REFUSED_COUNT if the count is above 2,000; BGZ_REFUSED_LENGTH if

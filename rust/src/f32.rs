@@ -114,8 +114,8 @@ unsafe extern "C" {
     #[link_name = "bgz_f32_to_usize"]
     pub safe fn to_usize(x: f32) -> usize;
 
-    /// The float nearest to the square root. A zero and +infinity give themselves; any other `x`
-    /// below 0 gives a NaN.
+    /// The float nearest to the square root. A zero and +infinity give themselves; an `x` below 0
+    /// and a NaN give a NaN.
     ///
     /// # Example
     ///

@@ -40,8 +40,8 @@ mod raw {
     }
 }
 
-/// Reads the floats of the records of a hatch list. A float may have any bits; every NaN is read as
-/// a NaN of any bits.
+/// Reads the floats of the records of a hatch list. A float may have any bits; a NaN is read as a
+/// NaN, whose bits may differ.
 ///
 /// Writes the 8 * count floats to the start of `out` and answers version and count.
 ///

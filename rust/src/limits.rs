@@ -26,5 +26,5 @@ pub const HATCH_FLOATS_MAX: usize = 16_000;
 /// The bytes of the longest hatch list.
 pub const HATCH_BYTES_MAX: usize = 64_007;
 
-/// The bytes of the longest report.
-pub const HATCH_REPORT_MAX: usize = 52_904;
+/// Room for any report: none has more bytes.
+pub const HATCH_REPORT_MAX: usize = 54_014;

@@ -3,9 +3,6 @@
 SIDE = 16384
 RECORDS = 2000
 
-# The place of each record in decimal digits.
-PLACES = sum(len(str(place)) for place in range(1, RECORDS + 1))
-
 LIMITS = (
     ("IMAGE_SIDE_MAX", SIDE, "The longest side of an image in pixels, and of a sheet in tiles."),
     ("STROKE_COORDINATE_MAX", 65536, "The largest coordinate of a stroke's ends, in size."),
@@ -15,9 +12,5 @@ LIMITS = (
     ("HATCH_RECORDS_MAX", RECORDS, "The most records of a hatch list."),
     ("HATCH_FLOATS_MAX", 8 * RECORDS, "Room for the floats of any hatch list."),
     ("HATCH_BYTES_MAX", 7 + 32 * RECORDS, "The bytes of the longest hatch list."),
-    (
-        "HATCH_REPORT_MAX",
-        len("HSL 1 2000\n") + PLACES + RECORDS * len(" hit 00000000 00000000\n"),
-        "The bytes of the longest report.",
-    ),
+    ("HATCH_REPORT_MAX", 54014, "Room for any report: none has more bytes."),
 )

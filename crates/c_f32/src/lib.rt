@@ -88,7 +88,7 @@ pub extern "C" fn bgz_f32_to_usize(x: f32) -> usize
     rounding::to_usize(x)
 }
 
-// The float nearest to the square root. A zero and +infinity give themselves; any other `x` below 0 gives a NaN.
+// The float nearest to the square root. A zero and +infinity give themselves; an `x` below 0 and a NaN give a NaN.
 // Example: 2.25 gives 1.5.
 #[no_mangle]
 pub extern "C" fn bgz_f32_sqrt(x: f32) -> f32

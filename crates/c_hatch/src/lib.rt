@@ -14,7 +14,7 @@ ghost use Rattle.hatch_read.specs.Read.{recordCountOf, decodeInto, itself, read
 ghost use Rattle.report.specs.Report.{reportOf};
 ghost use Rattle.c_hatch.specs.Answer.{ofRead};
 
-// Reads the floats of the records of a hatch list. A float may have any bits; every NaN is read as a NaN of any bits.
+// Reads the floats of the records of a hatch list. A float may have any bits; a NaN is read as a NaN, whose bits may differ.
 // Writes the 8 * count floats to the start of `out` and answers version and count.
 // Refused: `MARK` if the bytes do not begin with "HSL"; `LENGTH` if they are fewer than 7; `VERSION` if the version is not 1;
 // `COUNT` if the count is above 2,000; `LENGTH` if they are not 7 + 32 * count; `ROOM` if `out` is shorter than 8 * count.

@@ -28,12 +28,12 @@ ratioFromPositionOf ps pe q = let v = vec2.subOf pe ps in vec2.dotOf v q ⊘ vec
 -- ---- culling
 
 -- how far apart the numbers a and b are, as the larger less the smaller
-abbrev pub extentOf : Float → Float → Float
-extentOf a b = maxOf a b ⊖ minOf a b
+abbrev pub spreadOf : Float → Float → Float
+spreadOf a b = maxOf a b ⊖ minOf a b
 
 -- how far apart two edges may lie and still count as touching
 abbrev pub slackOf : Vec2 → Vec2 → Vec2 → Vec2 → Float
-slackOf s0 e0 s1 e1 = (extentOf (s0 .x) (e0 .x) ⊕ extentOf (s0 .y) (e0 .y) ⊕ extentOf (s1 .x) (e1 .x) ⊕ extentOf (s1 .y) (e1 .y)) ⊗ epsilon
+slackOf s0 e0 s1 e1 = (spreadOf (s0 .x) (e0 .x) ⊕ spreadOf (s0 .y) (e0 .y) ⊕ spreadOf (s1 .x) (e1 .x) ⊕ spreadOf (s1 .y) (e1 .y)) ⊗ epsilon
 
 -- the range of a and b lies below that of c and d, by more than the slack
 abbrev pub belowOf : Float → Float → Float → Float → Float → Bool

@@ -2,7 +2,7 @@
 use types::Vec2;
 ghost use mathlib.Core.Path.{_≡_};
 ghost use Rattle.edge2_measure.specs.Measure.{lengthOf, squaredLengthOf, unitEdgeVectorOf, positionFromRatioOf, ratioFromPositionOf, cullingIntersectionOf};
-ghost use Rattle.edge2_measure.specs.Measure.{extentOf, slackOf, belowOf};
+ghost use Rattle.edge2_measure.specs.Measure.{spreadOf, slackOf, belowOf};
 
 pub fn length(s: Vec2, e: Vec2) -> f32
     ensures { λ r. ⌜ r ≡ lengthOf s e ⌝ }
@@ -53,17 +53,17 @@ pub fn ratio_from_position(ps: Vec2, pe: Vec2, q: Vec2) -> f32
 }
 
 // How far apart two coordinates are.
-fn extent(a: f32, b: f32) -> f32
-    ensures { λ r. ⌜ r ≡ extentOf a b ⌝ }
+fn spread(a: f32, b: f32) -> f32
+    ensures { λ r. ⌜ r ≡ spreadOf a b ⌝ }
 {
     float::max(a, b) - float::min(a, b)
 }
 
-// How far two edges may lie apart and still count as touching: the sum of their extents times 2 ^ -23.
+// How far two edges may lie apart and still count as touching: the sum of their spreads times 2 ^ -23.
 fn slack(s0: Vec2, e0: Vec2, s1: Vec2, e1: Vec2) -> f32
     ensures { λ r. ⌜ r ≡ slackOf s0 e0 s1 e1 ⌝ }
 {
-    (extent(s0.x, e0.x) + extent(s0.y, e0.y) + extent(s1.x, e1.x) + extent(s1.y, e1.y))
+    (spread(s0.x, e0.x) + spread(s0.y, e0.y) + spread(s1.x, e1.x) + spread(s1.y, e1.y))
         * 0.00000011920929
 }
 

@@ -1,4 +1,3 @@
-pub mod Fields
 pub mod Folds
 pub mod MinMax
 pub mod Rounded

@@ -9,7 +9,7 @@ abbrev pub signed : Bool → ℕ → ℤ
 signed false n = pos n
 signed true n = negℤ (pos n)
 
--- how many units of 2 ^ -149 the size of a finite value is, which divides every f32; 0 for a NaN and an infinity
+-- how many units of 2 ^ -149 the size of a finite value is, a whole number for every f32; 0 for a NaN and an infinity
 abbrev pub inUnits : Float → ℕ
 inUnits nan = 0
 inUnits (inf s) = 0

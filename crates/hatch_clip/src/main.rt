@@ -8,7 +8,7 @@ ghost use Rattle.hatch_clip.specs.Input.{Within};
 // The longest file has 64,007 bytes. One byte more tells a longer file, which is refused and not cut.
 const BYTES: usize = 64008;
 
-// The longest report.
+// No report is longer.
 const REPORT: usize = 54014;
 
 // What was read: how many bytes, or that a read failed.

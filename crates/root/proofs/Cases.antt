@@ -9,8 +9,7 @@ use lib.Dec.{eqb}
 use lib.Ieee.{Float, nan, inf, fin, binary32, ofFields, ofBits}
 use lib.Ieee.Exact.{HasValue}
 use lib.Ieee.Positive.{positive-of-value}
-use Rattle.float.specs.Fields.{fieldUnits}
-use Rattle.float.proofs.Fields.{field-value, field-top}
+use Rattle.float.proofs.Fields.{fieldUnits, field-value, field-top}
 use Rattle.root.specs.Radicand.{radicand}
 use Rattle.root.specs.Root.{nearestRoot, sqrtOf}
 use Rattle.root.proofs.Special.{sqrt-of-nan, sqrt-of-infinity, sqrt-of-minus-infinity}

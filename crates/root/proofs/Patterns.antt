@@ -11,8 +11,7 @@ use lib.Pow.{pow-pos}
 use lib.Ieee.{Float, binary32, ofFields, ofBits, toBits, nanBits, fits}
 use lib.Ieee.Bits.{ofBits-toBits, nanBits-above}
 use lib.Ieee.Exact.{HasValue}
-use Rattle.float.specs.Fields.{fieldUnits}
-use Rattle.float.proofs.Fields.{field-value}
+use Rattle.float.proofs.Fields.{fieldUnits, field-value}
 use Rattle.float.specs.Units.{inUnits}
 use Rattle.float.proofs.Units.{units-of}
 

@@ -5,7 +5,7 @@ use native.Mathlib.Nat.{add-comm, mul-assoc, mul-one}
 use native.Mathlib.Omega.{arith}
 use lib.Pow.{pow-add}
 use lib.Ieee.{binary32, ofBits}
-use Rattle.float.specs.Fields.{fieldUnits}
+use Rattle.float.proofs.Fields.{fieldUnits}
 use Rattle.float.specs.Units.{inUnits}
 use Rattle.root.specs.Radicand.{radicand}
 use Rattle.root.specs.Steps.{Scaled}

@@ -15,8 +15,7 @@ use lib.Ieee.Fits.{down-pos}
 use lib.Ieee.Nearest.{div-same}
 use lib.Ieee.Scale.{finite}
 use borrow.Author.Tests.{leb-false}
-use Rattle.float.specs.Fields.{fieldUnits}
-use Rattle.float.proofs.Fields.{field-value, field-top}
+use Rattle.float.proofs.Fields.{fieldUnits, field-value, field-top}
 use Rattle.float.proofs.Units.{pow-lt-back}
 use Rattle.rounding.proofs.Sizes.{pow2, Under, under, part, unsigned, over-zero, one-size}
 

@@ -45,8 +45,8 @@ inRanges a b p = within a (p .x) && within b (p .y)
 abbrev pub goesOn : Axis → Axis → ℕ → Bool
 goesOn a b k = inRanges a b (position a b k)
 
--- The first of k, k + 1, .. at which the walk does not go on, and k + n if it goes on at all before. t says whether it goes on at k:
--- as an argument, so that this computes no further than the walk goes.
+-- The first of k, k + 1, .. at which the walk does not go on, and k + n if it goes on at each of the n before that. t says whether it goes
+-- on at k: as an argument, so that this computes no further than the walk goes.
 unfoldable pub firstOutside : Axis → Axis → ℕ → Bool → ℕ → ℕ
 firstOutside a b zero t k = k
 firstOutside a b (suc n) false k = k

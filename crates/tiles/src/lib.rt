@@ -76,7 +76,8 @@ fn bad_coordinate(x: f32) -> bool
     !(float::abs(x) <= 1048576.0)
 }
 
-// Of n columns or rows, those from the one that low lies in to the one that high lies in. Each is one before what `past_place` gives.
+// Of n columns or rows, those from the one that low lies in to the one that high lies in. The first is one before what `past_place` gives
+// for low, from 0 on.
 fn places(low: f32, high: f32, size: usize, n: usize) -> Span
     requires { ⌜ (badCoordinate low ≡ false) × (badCoordinate high ≡ false) × (1 ≤ size) × (size ≤ 4096) ⌝ }
     ensures { λ r. ⌜ (r .first ≡ firstPlace size low) × (r .count ≡ placeCount size n low high) ⌝ }
@@ -89,7 +90,7 @@ fn places(low: f32, high: f32, size: usize, n: usize) -> Span
     }
 }
 
-// The first column or row after the one that x lies in, or 0 where x lies below 0.
+// The first column or row after the one that the rounded quotient x / size lies in, or 0 where the quotient is below 0.
 fn past_place(x: f32, size: usize) -> usize
     requires { ⌜ (badCoordinate x ≡ false) × (1 ≤ size) × (size ≤ 4096) ⌝ }
     ensures { λ r. ⌜ r ≡ pastPlace size x ⌝ }

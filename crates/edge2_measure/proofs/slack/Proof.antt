@@ -5,7 +5,7 @@ use Rattle.edge2_measure.proofs.slack.Tie as tie
 
 returns : tie.Need-returns
 returns c =
-    rw (c .before .before .before .extent .ensures, c .before .before .extent2 .ensures, c .before .extent3 .ensures, c .extent4 .ensures)
+    rw (c .before .before .before .spread .ensures, c .before .before .spread2 .ensures, c .before .spread3 .ensures, c .spread4 .ensures)
 
 pub slack-spec : {M : Type 1} → statement M
 slack-spec = tie.close (tie.spec
