@@ -31,26 +31,18 @@ pub fn axis_of(step: f32, p: f32, q: f32) -> Axis
     }
 }
 
+// Both tests, with no branch between them, so that those of the two coordinates are made at once.
 fn within(a: Axis, x: f32) -> bool
     ensures { λ r. ⌜ r ≡ within a x ⌝ }
 {
-    if x < a.low {
-        return false;
-    }
-    if x > a.high {
-        return false;
-    }
-    true
+    !((x < a.low) | (x > a.high))
 }
 
 // Whether the walk goes on at p: both coordinates lie within their ranges.
 pub fn in_ranges(a: Axis, b: Axis, p: Vec2) -> bool
     ensures { λ r. ⌜ r ≡ inRanges a b p ⌝ }
 {
-    if within(a, p.x) {
-        return within(b, p.y);
-    }
-    false
+    within(a, p.x) & within(b, p.y)
 }
 
 // The first position.

@@ -8,5 +8,4 @@ pub in-ranges-spec : {M : Type 1} → statement M
 unfolding inRanges
 in-ranges-spec = tie.close (tie.spec
     (λ c κs. search needs) (λ c κs. search needs)
-    (λ c. rw (← c .before .before .within .ensures, c .before .if1 .taken, c .within2 .ensures))
-    (λ c. rw (← c .before .within .ensures, c .if1 .left)))
+    (λ c. rw (c .before .within .ensures, c .within2 .ensures)))
