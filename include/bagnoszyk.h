@@ -320,7 +320,7 @@ float bgz_vec2_dot(bgz_vec2 a, bgz_vec2 b);
 float bgz_vec2_squared_length(bgz_vec2 p);
 
 /*
- * The square root of the squared length, which may overflow to infinity.
+ * The square root of the squared length, which may overflow to infinity or underflow to 0.
  * Example: (3, 4) gives 5.
  */
 float bgz_vec2_length(bgz_vec2 p);
@@ -349,7 +349,8 @@ float bgz_edge2_length(bgz_vec2 s, bgz_vec2 e);
 float bgz_edge2_squared_length(bgz_vec2 s, bgz_vec2 e);
 
 /*
- * The direction from s to e: e - s times 1 / length. An edge whose computed length is 0 gives infinities or NaN.
+ * The direction from s to e: e - s times 1 / length. An edge whose computed length is 0 gives infinities or NaN, and
+ * one whose length overflows zeros or NaN.
  * Example: (0, 0), (0, 2) gives (0, 1).
  */
 bgz_vec2 bgz_edge2_unit_edge_vector(bgz_vec2 s, bgz_vec2 e);
@@ -391,7 +392,9 @@ bgz_on_edge bgz_edge2_nearest_to_point(bgz_vec2 s, bgz_vec2 e, bgz_vec2 p);
 /*
  * The length of the edge from s to e in the box b, as del-geo-core takes it: the diagonal of what the box's range and
  * the range between the ends share in x and in y. 0 if they share nothing in x, or nothing in y. It is the exact length
- * only where the edge runs from corner to corner of what is shared.
+ * only where the edge runs from corner to corner of what is shared: it may be above 0 for an edge that misses the box,
+ * and is 0 for one that only runs along an edge of the box. Where a coordinate of one end is a NaN, the other end's
+ * counts for both.
  * Refused: BGZ_REFUSED_ORDER if in x the box is not low <= high, as with a NaN, or both ends are NaN; then, unless x
  * shares nothing, the same in y.
  * Example: (0, 0), (3, 4), (0, 0, 3, 4) gives 5.
@@ -400,7 +403,7 @@ bgz_float_answer bgz_edge2_intersection_length_against_aabb2(bgz_vec2 s, bgz_vec
 
 /*
  * The ink that the stroke from s to e leaves in the box b: bgz_edge2_intersection_length_against_aabb2, with its
- * refusal.
+ * refusal, so not the exact length.
  * Refused: BGZ_REFUSED_ORDER if in x the box is not low <= high, as with a NaN, or both ends are NaN; then, unless x
  * shares nothing, the same in y.
  * Example: (0, 0), (6, 8), (0, 0, 3, 4) gives 5.
@@ -411,8 +414,9 @@ bgz_float_answer bgz_edge2_ink(bgz_vec2 s, bgz_vec2 e, bgz_aabb2 b);
  * The pixels under the stroke from p0 to p1, in an image of width by height pixels; a side may be 0. A walk starts at
  * p0. Each step adds the difference of the ends divided by the larger absolute difference, signs kept. The walk goes on
  * while x and y lie within the ends' ranges, widened by 2^-23. Each position in the image enters row * width + column.
- * The position after them enters the same as a closing entry, a negative coordinate as 0: it may name a pixel of the
- * next row, or none.
+ * The first position outside the ranges enters likewise as a closing entry, a negative coordinate as 0. There is always
+ * one, last: it is no pixel of the stroke, though it may name one of the image. The stroke's pixels are the entries
+ * before it.
  * Writes the entries to the start of list and answers how many: at most one more than the longer of width and height,
  * so a list of that length is never too short.
  * Refused: BGZ_REFUSED_SIZE if width or height is above 16,384; BGZ_REFUSED_COORDINATE if a coordinate is not finite or
@@ -427,7 +431,10 @@ bgz_count_answer bgz_edge2_overlapping_pixels_dda(size_t width, size_t height, b
 /*
  * The stretch of the line origin + t * direction in the box b: tmin <= tmax, both finite. None if the line misses b;
  * touching an edge or a corner is a hit. Where a component of direction is a zero, that dimension only tests that
- * origin is not outside. t keeps its sign: a line may be in the box only at negative t.
+ * origin is not outside. t keeps its sign: a line may be in the box only at negative t. Where nothing bounds t it is
+ * held to the finite numbers, -3.4028235e38 to 3.4028235e38. An edge at a NaN drops out, so that t is that of the
+ * opposite edge; where both drop out, that dimension bounds nothing. A box reversed in a dimension is taken as ordered
+ * there, unless that component of direction is a zero.
  * Example: (0, 0, 4, 2), (6, -1), (-1, 1) gives (2, 3).
  */
 bgz_interval_answer bgz_aabb_intersections_against_line(bgz_aabb2 b, bgz_vec2 origin, bgz_vec2 direction);
@@ -472,7 +479,7 @@ bgz_aabb2 bgz_aabb2_from_two_points(bgz_vec2 p, bgz_vec2 q, float radius);
 bgz_aabb2 bgz_aabb2_from_two_aabbs(bgz_aabb2 a, bgz_aabb2 b);
 
 /*
- * b widened to hold the box from p - radius to p + radius.
+ * b widened to hold the box from p - radius to p + radius. A NaN is dropped, as by minimum and maximum.
  * Refused: BGZ_REFUSED_RADIUS if radius is not at least 0, as with a NaN.
  * Example: (0, 0, 1, 1), (3, 0), 0 gives (0, 0, 3, 1).
  */
@@ -494,7 +501,7 @@ bgz_pixels_answer bgz_aabb2_rasterize(bgz_aabb2 b, size_t width, size_t height);
 bgz_vec2 bgz_aabb2_center(bgz_aabb2 b);
 
 /*
- * The longer of the two sides, high - low.
+ * The longer of the two sides, high - low. A NaN is dropped, as by maximum.
  * Example: (0, 0, 4, 2) gives 4.
  */
 float bgz_aabb2_max_edge_size(bgz_aabb2 b);
@@ -521,7 +528,8 @@ bgz_mat3 bgz_aabb2_to_transformation_world2unit_ortho_preserve_asp(bgz_aabb2 b);
 bool bgz_aabb2_is_include_point2(bgz_aabb2 b, bgz_vec2 p);
 
 /*
- * Whether the square from p - radius to p + radius overlaps b. Touching is not overlapping.
+ * Whether the square from p - radius to p + radius overlaps b. Touching is not overlapping. A NaN in p or in b does not
+ * part them; with a NaN radius the answer is false.
  * Example: (0, 0, 4, 2), (5, 1), 2 gives true.
  */
 bool bgz_aabb2_is_intersect_square(bgz_aabb2 b, bgz_vec2 p, float radius);
@@ -534,7 +542,8 @@ bool bgz_aabb2_is_intersect_square(bgz_aabb2 b, bgz_vec2 p, float radius);
 bgz_point_answer bgz_aabb2_nearest_point2(bgz_aabb2 b, bgz_vec2 p);
 
 /*
- * The signed distance from p to the edge of b: positive outside, negative inside, but for rounding.
+ * The signed distance from p to the edge of b: positive outside, negative inside, but for rounding. A NaN is dropped,
+ * as by maximum.
  * Example: (0, 0, 4, 2), (7, 6) gives 5.
  */
 float bgz_aabb2_sdf(bgz_aabb2 b, bgz_vec2 p);
@@ -556,7 +565,9 @@ bgz_aabb2 bgz_aabb2_translate(bgz_aabb2 b, bgz_vec2 t);
  * floor(min_x / size) up to and with floor(max_x / size), rows likewise, each quotient rounded; those off the sheet are
  * skipped. A tile's number is row * shape_width + column. A box reversed in x has a column only if both ends lie in it,
  * and likewise a row in y. A side of the shape may be 0. Where the box is not reversed and each of its coordinates is
- * zero or at least 2^-100 in size, the tiles are the smallest set of the sheet's tiles that covers it.
+ * zero or at least 2^-100 in size, the tiles are the smallest set of the sheet's tiles that covers what of it lies on
+ * the sheet. A tile holds its low edges and not its high ones, so a box that ends on a tile's high edge has the next
+ * tile too.
  * Writes the numbers, rising, to the start of out and answers how many; 0 is an answer too.
  * Refused: BGZ_REFUSED_SIZE if size is 0 or above 4,096, or shape_width or shape_height is above 16,384;
  * BGZ_REFUSED_COORDINATE if a coordinate of b is not finite or is above 1,048,576 in size; BGZ_REFUSED_ROOM if out is
@@ -587,7 +598,7 @@ bgz_box_answer bgz_aabb2_from_aabbs(const float *all, size_t all_length, size_t 
 bgz_box_answer bgz_aabb2_from_slice(const float *s, size_t s_length);
 
 /*
- * b widened where it stands to hold the box from p - radius to p + radius.
+ * b widened where it stands to hold the box from p - radius to p + radius. A NaN is dropped, as by minimum and maximum.
  * Answers the status.
  * Refused: BGZ_REFUSED_RADIUS if radius is not at least 0, as with a NaN; b stays as it was.
  * Example: (0, 0, 1, 1), (3, 0), 0 leaves (0, 0, 3, 1).
@@ -620,7 +631,8 @@ bgz_point_answer bgz_obb2_nearest_point2(bgz_obb2 o, bgz_vec2 p);
 /*
  * Whether two turned boxes meet: no exactly if on some axis across a half edge of a or of b the computed projections of
  * the corners of one lie strictly below those of the other. Ranges whose computed ends are equal overlap; rounding
- * parts some boxes that touch. The order of a and b does not matter.
+ * parts some boxes that touch. The order of a and b does not matter. A half edge of length 0 gives no axis, so boxes
+ * that only that axis would part count as meeting.
  * Example: (0, 0, 1, 0, 0, 1), (3, 0, 1, 0, 0, 1) gives false.
  */
 bool bgz_obb2_is_intersect_obb2(bgz_obb2 a, bgz_obb2 b);
@@ -628,7 +640,8 @@ bool bgz_obb2_is_intersect_obb2(bgz_obb2 a, bgz_obb2 b);
 /*
  * Whether a turned and an upright box meet: no exactly if on some axis (x, y, and those across u and v) the computed
  * projections of the corners of one lie strictly below those of the other. Ranges whose computed ends are equal
- * overlap; rounding parts some boxes that touch.
+ * overlap; rounding parts some boxes that touch. A half edge of length 0 gives no axis, so boxes that only that axis
+ * would part count as meeting.
  * Example: (0, 0, 1, 1, -1, 1), (1, 1, 3, 3) gives true.
  */
 bool bgz_obb2_is_intersect_aabb2(bgz_obb2 o, bgz_aabb2 b);

@@ -51,7 +51,7 @@ unsafe extern "C" {
     #[link_name = "bgz_aabb2_center"]
     pub safe fn center(b: Aabb2) -> Vec2;
 
-    /// The longer of the two sides, high - low.
+    /// The longer of the two sides, high - low. A NaN is dropped, as by maximum.
     ///
     /// # Example
     ///
@@ -93,7 +93,8 @@ unsafe extern "C" {
     pub safe fn is_include_point2(b: Aabb2, p: Vec2) -> bool;
 
     /// Whether the square from `p` - `radius` to `p` + `radius` overlaps `b`. Touching is not
-    /// overlapping.
+    /// overlapping. A NaN in `p` or in `b` does not part them; with a NaN radius the answer is
+    /// false.
     ///
     /// # Example
     ///
@@ -108,7 +109,7 @@ unsafe extern "C" {
     pub safe fn is_intersect_square(b: Aabb2, p: Vec2, radius: f32) -> bool;
 
     /// The signed distance from `p` to the edge of `b`: positive outside, negative inside, but for
-    /// rounding.
+    /// rounding. A NaN is dropped, as by maximum.
     ///
     /// # Example
     ///
@@ -214,7 +215,8 @@ pub fn from_point(p: Vec2, radius: f32) -> Result<Aabb2, Refusal> {
     raw::from_point(p, radius).result()
 }
 
-/// `b` widened to hold the box from `p` - `radius` to `p` + `radius`.
+/// `b` widened to hold the box from `p` - `radius` to `p` + `radius`. A NaN is dropped, as by
+/// minimum and maximum.
 ///
 /// # Errors
 ///
@@ -303,7 +305,9 @@ pub fn nearest_point2(b: Aabb2, p: Vec2) -> Result<Vec2, Refusal> {
 /// each quotient rounded; those off the sheet are skipped. A tile's number is row * `shape_width` +
 /// column. A box reversed in x has a column only if both ends lie in it, and likewise a row in y. A
 /// side of the shape may be 0. Where the box is not reversed and each of its coordinates is zero or
-/// at least 2^-100 in size, the tiles are the smallest set of the sheet's tiles that covers it.
+/// at least 2^-100 in size, the tiles are the smallest set of the sheet's tiles that covers what of
+/// it lies on the sheet. A tile holds its low edges and not its high ones, so a box that ends on a
+/// tile's high edge has the next tile too.
 ///
 /// Writes the numbers, rising, to the start of `out` and answers how many; 0 is an answer too.
 ///
@@ -400,7 +404,8 @@ pub fn from_slice(s: &[f32]) -> Result<Aabb2, Refusal> {
     a.result()
 }
 
-/// `b` widened where it stands to hold the box from `p` - `radius` to `p` + `radius`.
+/// `b` widened where it stands to hold the box from `p` - `radius` to `p` + `radius`. A NaN is
+/// dropped, as by minimum and maximum.
 ///
 /// # Errors
 ///

@@ -35,7 +35,7 @@ unsafe extern "C" {
     pub safe fn squared_length(s: Vec2, e: Vec2) -> f32;
 
     /// The direction from `s` to `e`: `e` - `s` times 1 / length. An edge whose computed length is
-    /// 0 gives infinities or NaN.
+    /// 0 gives infinities or NaN, and one whose length overflows zeros or NaN.
     ///
     /// # Example
     ///
@@ -155,7 +155,9 @@ mod raw {
 /// The length of the edge from `s` to `e` in the box `b`, as del-geo-core takes it: the diagonal of
 /// what the box's range and the range between the ends share in x and in y. 0 if they share nothing
 /// in x, or nothing in y. It is the exact length only where the edge runs from corner to corner of
-/// what is shared.
+/// what is shared: it may be above 0 for an edge that misses the box, and is 0 for one that only
+/// runs along an edge of the box. Where a coordinate of one end is a NaN, the other end's counts
+/// for both.
 ///
 /// # Errors
 ///
@@ -179,7 +181,7 @@ pub fn intersection_length_against_aabb2(s: Vec2, e: Vec2, b: Aabb2) -> Result<f
 
 /// The ink that the stroke from `s` to `e` leaves in the box `b`:
 /// [`edge2::intersection_length_against_aabb2`](crate::edge2::intersection_length_against_aabb2),
-/// with its refusal.
+/// with its refusal, so not the exact length.
 ///
 /// # Errors
 ///
@@ -204,9 +206,10 @@ pub fn ink(s: Vec2, e: Vec2, b: Aabb2) -> Result<f32, Refusal> {
 /// The pixels under the stroke from `p0` to `p1`, in an image of `width` by `height` pixels; a side
 /// may be 0. A walk starts at `p0`. Each step adds the difference of the ends divided by the larger
 /// absolute difference, signs kept. The walk goes on while x and y lie within the ends' ranges,
-/// widened by 2^-23. Each position in the image enters row * `width` + column. The position after
-/// them enters the same as a closing entry, a negative coordinate as 0: it may name a pixel of the
-/// next row, or none.
+/// widened by 2^-23. Each position in the image enters row * `width` + column. The first position
+/// outside the ranges enters likewise as a closing entry, a negative coordinate as 0. There is
+/// always one, last: it is no pixel of the stroke, though it may name one of the image. The
+/// stroke's pixels are the entries before it.
 ///
 /// Writes the entries to the start of `list` and answers how many: at most one more than the longer
 /// of `width` and `height`, so a list of that length is never too short.

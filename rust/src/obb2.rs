@@ -37,7 +37,8 @@ unsafe extern "C" {
     /// Whether two turned boxes meet: no exactly if on some axis across a half edge of `a` or of
     /// `b` the computed projections of the corners of one lie strictly below those of the other.
     /// Ranges whose computed ends are equal overlap; rounding parts some boxes that touch. The
-    /// order of `a` and `b` does not matter.
+    /// order of `a` and `b` does not matter. A half edge of length 0 gives no axis, so boxes that
+    /// only that axis would part count as meeting.
     ///
     /// # Example
     ///
@@ -53,7 +54,9 @@ unsafe extern "C" {
 
     /// Whether a turned and an upright box meet: no exactly if on some axis (x, y, and those across
     /// u and v) the computed projections of the corners of one lie strictly below those of the
-    /// other. Ranges whose computed ends are equal overlap; rounding parts some boxes that touch.
+    /// other. Ranges whose computed ends are equal overlap; rounding parts some boxes that touch. A
+    /// half edge of length 0 gives no axis, so boxes that only that axis would part count as
+    /// meeting.
     ///
     /// # Example
     ///

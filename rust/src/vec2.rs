@@ -46,7 +46,7 @@ unsafe extern "C" {
     #[link_name = "bgz_vec2_squared_length"]
     pub safe fn squared_length(p: Vec2) -> f32;
 
-    /// The square root of the squared length, which may overflow to infinity.
+    /// The square root of the squared length, which may overflow to infinity or underflow to 0.
     ///
     /// # Example
     ///

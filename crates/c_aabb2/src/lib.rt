@@ -47,7 +47,7 @@ pub extern "C" fn bgz_aabb2_from_two_aabbs(a: Aabb2, b: Aabb2) -> Aabb2
     aabb2::from_two_aabbs(a, b)
 }
 
-// `b` widened to hold the box from `p` - `radius` to `p` + `radius`.
+// `b` widened to hold the box from `p` - `radius` to `p` + `radius`. A NaN is dropped, as by minimum and maximum.
 // Refused: `RADIUS` if `radius` is not at least 0, as with a NaN.
 // Example: (0, 0, 1, 1), (3, 0), 0 gives (0, 0, 3, 1).
 #[no_mangle]
@@ -78,7 +78,7 @@ pub extern "C" fn bgz_aabb2_center(b: Aabb2) -> Vec2
     aabb2::center(b)
 }
 
-// The longer of the two sides, high - low.
+// The longer of the two sides, high - low. A NaN is dropped, as by maximum.
 // Example: (0, 0, 4, 2) gives 4.
 #[no_mangle]
 pub extern "C" fn bgz_aabb2_max_edge_size(b: Aabb2) -> f32
@@ -117,7 +117,8 @@ pub extern "C" fn bgz_aabb2_is_include_point2(b: Aabb2, p: Vec2) -> bool
     aabb2::is_include_point2(b, p)
 }
 
-// Whether the square from `p` - `radius` to `p` + `radius` overlaps `b`. Touching is not overlapping.
+// Whether the square from `p` - `radius` to `p` + `radius` overlaps `b`. Touching is not overlapping. A NaN in `p`
+// or in `b` does not part them; with a NaN radius the answer is false.
 // Example: (0, 0, 4, 2), (5, 1), 2 gives true.
 #[no_mangle]
 pub extern "C" fn bgz_aabb2_is_intersect_square(b: Aabb2, p: Vec2, radius: f32) -> bool
@@ -136,7 +137,8 @@ pub extern "C" fn bgz_aabb2_nearest_point2(b: Aabb2, p: Vec2) -> PointAnswer
     c_answers::nearest(aabb2::nearest_point2(b, p))
 }
 
-// The signed distance from `p` to the edge of `b`: positive outside, negative inside, but for rounding.
+// The signed distance from `p` to the edge of `b`: positive outside, negative inside, but for rounding. A NaN is dropped,
+// as by maximum.
 // Example: (0, 0, 4, 2), (7, 6) gives 5.
 #[no_mangle]
 pub extern "C" fn bgz_aabb2_sdf(b: Aabb2, p: Vec2) -> f32
@@ -167,7 +169,8 @@ pub extern "C" fn bgz_aabb2_translate(b: Aabb2, t: Vec2) -> Aabb2
 // floor(min_x / `size`) up to and with floor(max_x / `size`), rows likewise, each quotient rounded; those off the sheet are skipped.
 // A tile's number is row * `shape_width` + column. A box reversed in x has a column only if both ends lie in it, and likewise a row
 // in y. A side of the shape may be 0. Where the box is not reversed and each of its coordinates is zero or at least 2^-100 in size, the
-// tiles are the smallest set of the sheet's tiles that covers it.
+// tiles are the smallest set of the sheet's tiles that covers what of it lies on the sheet. A tile holds its low edges and not its high
+// ones, so a box that ends on a tile's high edge has the next tile too.
 // Writes the numbers, rising, to the start of `out` and answers how many; 0 is an answer too.
 // Refused: `SIZE` if `size` is 0 or above 4,096, or `shape_width` or `shape_height` is above 16,384; `COORDINATE` if a coordinate
 // of `b` is not finite or is above 1,048,576 in size; `ROOM` if `out` is shorter than the tiles.

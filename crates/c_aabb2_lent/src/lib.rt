@@ -6,7 +6,7 @@ ghost use Rattle.aabb2_from.specs.From.{addPointOf};
 ghost use Rattle.aabb2_lent.specs.Lent.{settledOf, answeredOf};
 ghost use Rattle.c_answers.specs.Answers.{ofWidened};
 
-// `b` widened where it stands to hold the box from `p` - `radius` to `p` + `radius`.
+// `b` widened where it stands to hold the box from `p` - `radius` to `p` + `radius`. A NaN is dropped, as by minimum and maximum.
 // Refused: `RADIUS` if `radius` is not at least 0, as with a NaN; `b` stays as it was.
 // Example: (0, 0, 1, 1), (3, 0), 0 leaves (0, 0, 3, 1).
 #[no_mangle]

@@ -31,7 +31,8 @@ pub extern "C" fn bgz_edge2_squared_length(s: Vec2, e: Vec2) -> f32
     edge2::squared_length(s, e)
 }
 
-// The direction from `s` to `e`: `e` - `s` times 1 / length. An edge whose computed length is 0 gives infinities or NaN.
+// The direction from `s` to `e`: `e` - `s` times 1 / length. An edge whose computed length is 0 gives infinities or NaN,
+// and one whose length overflows zeros or NaN.
 // Example: (0, 0), (0, 2) gives (0, 1).
 #[no_mangle]
 pub extern "C" fn bgz_edge2_unit_edge_vector(s: Vec2, e: Vec2) -> Vec2
@@ -91,7 +92,8 @@ pub extern "C" fn bgz_edge2_nearest_to_point(s: Vec2, e: Vec2, p: Vec2) -> OnEdg
 
 // The length of the edge from `s` to `e` in the box `b`, as del-geo-core takes it: the diagonal of what the box's range and the
 // range between the ends share in x and in y. 0 if they share nothing in x, or nothing in y. It is the exact length only where the
-// edge runs from corner to corner of what is shared.
+// edge runs from corner to corner of what is shared: it may be above 0 for an edge that misses the box, and is 0 for one that only runs
+// along an edge of the box. Where a coordinate of one end is a NaN, the other end's counts for both.
 // Refused: `ORDER` if in x the box is not low <= high, as with a NaN, or both ends are NaN; then, unless x shares nothing, the same
 // in y.
 // Example: (0, 0), (3, 4), (0, 0, 3, 4) gives 5.
@@ -106,7 +108,8 @@ pub extern "C" fn bgz_edge2_intersection_length_against_aabb2(
     c_answers::length(edge2::intersection_length_against_aabb2(s, e, b))
 }
 
-// The ink that the stroke from `s` to `e` leaves in the box `b`: `edge2::intersection_length_against_aabb2`, with its refusal.
+// The ink that the stroke from `s` to `e` leaves in the box `b`: `edge2::intersection_length_against_aabb2`, with its refusal, so not the
+// exact length.
 // Refused: `ORDER` if in x the box is not low <= high, as with a NaN, or both ends are NaN; then, unless x shares nothing, the same
 // in y.
 // Example: (0, 0), (6, 8), (0, 0, 3, 4) gives 5.
@@ -119,8 +122,9 @@ pub extern "C" fn bgz_edge2_ink(s: Vec2, e: Vec2, b: Aabb2) -> FloatAnswer
 
 // The pixels under the stroke from `p0` to `p1`, in an image of `width` by `height` pixels; a side may be 0. A walk starts at `p0`.
 // Each step adds the difference of the ends divided by the larger absolute difference, signs kept. The walk goes on while x and y
-// lie within the ends' ranges, widened by 2^-23. Each position in the image enters row * `width` + column. The position after them
-// enters the same as a closing entry, a negative coordinate as 0: it may name a pixel of the next row, or none.
+// lie within the ends' ranges, widened by 2^-23. Each position in the image enters row * `width` + column. The first position
+// outside the ranges enters likewise as a closing entry, a negative coordinate as 0. There is always one, last: it is no pixel of the
+// stroke, though it may name one of the image. The stroke's pixels are the entries before it.
 // Writes the entries to the start of `list` and answers how many: at most one more than the longer of `width` and `height`, so a
 // list of that length is never too short.
 // Refused: `SIZE` if `width` or `height` is above 16,384; `COORDINATE` if a coordinate is not finite or is above 65,536 in size;

@@ -40,7 +40,7 @@ pub extern "C" fn bgz_obb2_nearest_point2(o: Obb2, p: Vec2) -> PointAnswer
 
 // Whether two turned boxes meet: no exactly if on some axis across a half edge of `a` or of `b` the computed projections of the corners
 // of one lie strictly below those of the other. Ranges whose computed ends are equal overlap; rounding parts some boxes that touch. The
-// order of `a` and `b` does not matter.
+// order of `a` and `b` does not matter. A half edge of length 0 gives no axis, so boxes that only that axis would part count as meeting.
 // Example: (0, 0, 1, 0, 0, 1), (3, 0, 1, 0, 0, 1) gives false.
 #[no_mangle]
 pub extern "C" fn bgz_obb2_is_intersect_obb2(a: Obb2, b: Obb2) -> bool

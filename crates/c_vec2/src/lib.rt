@@ -30,7 +30,7 @@ pub extern "C" fn bgz_vec2_squared_length(p: Vec2) -> f32
     vec2::squared_length(p)
 }
 
-// The square root of the squared length, which may overflow to infinity.
+// The square root of the squared length, which may overflow to infinity or underflow to 0.
 // Example: (3, 4) gives 5.
 #[no_mangle]
 pub extern "C" fn bgz_vec2_length(p: Vec2) -> f32
