@@ -1,4 +1,4 @@
-/* Asking a routine, by numbers and by text. docs/GUIDE.md ("Ask it") describes the text. */
+/* Asking a routine, by numbers and by text. docs/GUIDE.md ("Calling it") describes the text. */
 #ifndef ASK_H
 #define ASK_H
 

@@ -1,5 +1,6 @@
 #define _POSIX_C_SOURCE 200809L /* getline */
 #include "ask.h"
+#include <errno.h>
 #include <stdio.h>
 #include <stdlib.h>
 #include <string.h>
@@ -11,7 +12,8 @@ static const char HELP[] =
     "\n"
     "A request is a routine's name and its numbers, one space apart.\n"
     "  float         eight hexadecimal digits of its bits, 3fc00000, or a decimal: 1.5, -0.25, 1e9, 12. Digits alone\n"
-    "                are a decimal if there are at most six, and bits if there are eight; 1048576 is written 1048576.0\n"
+    "                are a decimal if there are at most six, and bits if there are eight; 1048576 is written 1048576.0.\n"
+    "                Infinity and NaN are given as bits: 7f800000, 7fc00000.\n"
     "  whole number  decimal; marked :u in the list. A room is the length of the list that is lent to the routine.\n"
     "  list          any number of floats; marked :f* in the list.\n"
     "A point is x y; a range low high; an upright box min_x min_y max_x max_y; a turned box its centre cx cy and two\n"
@@ -22,7 +24,23 @@ static const char HELP[] =
     "'damaged' if a lent list was touched where it should not have been. What is no request is answered 'bad request',\n"
     "and standard error says why.\n"
     "\n"
+    "Exit status: 0; 1 if a request given as arguments is bad, or reading or writing fails.\n"
+    "\n"
     "  ./ask --decimal aabb.line 0 0 4 2 6 -1 -1 1    answers: 2 3\n";
+
+/* Ends the program after a call that failed. */
+static void fail(const char *what) {
+    fprintf(stderr, "ask: cannot %s: %s\n", what, strerror(errno));
+    exit(EXIT_FAILURE);
+}
+
+/* Says a text on standard error, with \xNN for a byte that is no visible character or space of ASCII. */
+static void say(const char *text) {
+    for (; *text != '\0'; text++) {
+        unsigned char byte = (unsigned char)*text;
+        fprintf(stderr, byte >= 0x20 && byte <= 0x7e ? "%c" : "\\x%02x", byte);
+    }
+}
 
 static void print_list(void) {
     for (const struct routine *r = routines; r < routines + routine_count; r++) {
@@ -39,24 +57,28 @@ static void print_list(void) {
     }
 }
 
-/*
- * Answers a line, without waiting for the next: whoever asks may wait for this answer first. False if it is a bad request.
- */
+/* Without waiting for more: whoever asks may wait for this answer before the next request. */
+static void print_answer(const char *text) {
+    if (puts(text) == EOF || fflush(stdout) == EOF)
+        fail("write the answers");
+}
+
+/* Answers a line. False if it is a bad request. */
 static bool answer(char *line, bool decimal) {
     struct request request;
     bool good = read_request(line, &request);
     if (good) {
         struct reply reply = ask(request.routine, request.floats, request.float_count, request.wholes);
         char *text = reply_text(request.routine, &reply, decimal);
-        puts(text);
+        print_answer(text);
         free(text);
         free(reply.list);
     } else {
-        puts("bad request");
+        print_answer("bad request");
+        say("bad request: ");
+        say(request.reason);
+        fputs("\n", stderr);
     }
-    fflush(stdout);
-    if (!good)
-        fprintf(stderr, "bad request: %s\n", request.reason);
     free(request.floats);
     return good;
 }
@@ -72,6 +94,8 @@ static void answer_lines(bool decimal) {
             line[0] = '\0';
         answer(line, decimal);
     }
+    if (!feof(stdin))
+        fail("read the requests");
     free(line);
 }
 
@@ -88,22 +112,40 @@ static char *joined(char **words) {
     return line;
 }
 
-int main(int argc, char **argv) {
-    (void)argc;
-    char **word = argv + 1;
-    bool good = true;
-    bool decimal = *word != NULL && strcmp(*word, "--decimal") == 0;
-    word += decimal;
-    if (*word == NULL)
-        answer_lines(decimal);
-    else if (strcmp(*word, "--help") == 0)
+/* Does what an option that stands alone asks for. */
+static void obey(const char *option) {
+    if (strcmp(option, "--help") == 0 || strcmp(option, "-h") == 0)
         fputs(HELP, stdout);
-    else if (strcmp(*word, "--list") == 0)
+    else if (strcmp(option, "--list") == 0)
         print_list();
     else {
+        say("ask: no option ");
+        say(option);
+        fputs("; see --help\n", stderr);
+        exit(EXIT_FAILURE);
+    }
+    if (fflush(stdout) == EOF || ferror(stdout))
+        fail("write the answers");
+}
+
+int main(int argc, char **argv) {
+    (void)argc;
+    /* A message is written in one piece. */
+    setvbuf(stderr, NULL, _IOLBF, BUFSIZ);
+    char **word = argv + 1;
+    bool good = true, decimal = false;
+    for (; *word != NULL && strcmp(*word, "--decimal") == 0; word++)
+        decimal = true;
+    if (*word == NULL)
+        answer_lines(decimal);
+    else if (**word == '-')
+        obey(*word);
+    else {
         char *line = joined(word);
-        good = line != NULL && answer(line, decimal);
+        if (line == NULL)
+            fail("read the requests");
+        good = answer(line, decimal);
         free(line);
     }
-    return good && fflush(stdout) == 0 && !ferror(stdout) ? EXIT_SUCCESS : EXIT_FAILURE;
+    return good ? EXIT_SUCCESS : EXIT_FAILURE;
 }

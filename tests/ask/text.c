@@ -17,37 +17,53 @@ static bool has_only(const char *field, const char *characters) {
 
 /* ---- numbers */
 
+static const char NO_FLOAT[] = "neither eight hexadecimal digits nor a decimal: past six digits it needs a point";
+
 /*
- * Eight hexadecimal digits are a float's bits; anything else is a decimal. Seven of them, or nine and more, are neither:
- * those are more likely bits with a digit lost or added, and a decimal has another way to be written, with a point.
+ * Null, or what the field is instead of a float. Eight hexadecimal digits are a float's bits; anything else is a decimal.
+ * Seven of them, or nine and more, are neither: those are more likely bits with a digit lost or added, and a decimal has
+ * another way to be written, with a point.
  */
-static bool read_float(const char *field, float *x) {
+static const char *read_float(const char *field, float *x) {
     size_t length = strlen(field);
     if (has_only(field, HEX_DIGITS) && length >= 7) {
         uint32_t bits = (uint32_t)strtoul(field, NULL, 16);
         memcpy(x, &bits, sizeof bits);
-        return length == 8;
+        return length == 8 ? NULL : NO_FLOAT;
     }
     /* With these characters strtof reads decimals alone, and rounds them to the nearest float. */
     char *end;
     *x = strtof(field, &end);
-    return has_only(field, DIGITS ".eE+-") && field[0] != '+' && *end == '\0' && isfinite(*x);
+    if (!has_only(field, DIGITS ".eE+-") || field[0] == '+' || *end != '\0')
+        return NO_FLOAT;
+    return isfinite(*x) ? NULL : "too large for an f32";
 }
 
-static bool read_whole(const char *field, uint64_t *n) {
+/* Null, or what the field is instead of a whole number. */
+static const char *read_whole(const char *field, uint64_t *n) {
     errno = 0;
     *n = strtoull(field, NULL, 10);
-    return has_only(field, DIGITS) && errno == 0;
+    return has_only(field, DIGITS) && errno == 0 ? NULL : "no whole number of 64 bits";
 }
 
-/* Any zero as +0, any NaN as nan. Nine digits tell every float from its neighbours. */
+/* The shortest decimal that reads back as the same float: nine digits tell every float from its neighbours. */
+static void write_decimal(FILE *out, float x) {
+    char text[32];
+    int digits = 1;
+    do
+        snprintf(text, sizeof text, "%.*g", digits, (double)x);
+    while (strtof(text, NULL) != x && digits++ < 9);
+    fputs(text, out);
+}
+
+/* Any zero as +0, any NaN as nan. */
 static void write_float(FILE *out, float x, bool decimal) {
     uint32_t bits;
     memcpy(&bits, &x, sizeof bits);
     if (isnan(x))
         fputs("nan", out);
     else if (decimal)
-        fprintf(out, "%.9g", x == 0 ? 0.0 : (double)x);
+        write_decimal(out, x == 0 ? 0 : x);
     else
         fprintf(out, "%08" PRIx32, x == 0 ? 0 : bits);
 }
@@ -89,12 +105,13 @@ static bool right_count(struct request *request, size_t given) {
     bool list = routine->takes[single] == 'F';
     if (given == single || (list && given > single))
         return true;
-    snprintf(request->reason, sizeof request->reason, "%s takes %zu numbers%s, %zu given", routine->name, single,
-             list ? " and a list" : "", given);
+    snprintf(request->reason, sizeof request->reason, "%s takes %zu number%s%s, %zu given", routine->name, single,
+             single == 1 ? "" : "s", list ? " and a list" : "", given);
     return false;
 }
 
-static bool read_field(struct request *request, char letter, const char *field, size_t *whole_count) {
+/* Null, or what the field is instead of what it should be. */
+static const char *read_field(struct request *request, char letter, const char *field, size_t *whole_count) {
     if (letter == 'f' || letter == 'F')
         return read_float(field, &request->floats[request->float_count++]);
     return read_whole(field, &request->wholes[(*whole_count)++]);
@@ -104,12 +121,10 @@ static bool read_fields(struct request *request, char *rest) {
     const char *takes = request->routine->takes;
     size_t place = 0, whole_count = 0;
     for (char *field; (field = next_field(&rest)) != NULL;) {
-        if (!read_field(request, takes[place], field, &whole_count)) {
+        const char *wrong = read_field(request, takes[place], field, &whole_count);
+        if (wrong != NULL) {
             int length;
             const char *name = field_name(request->routine, place, &length);
-            bool whole = takes[place] == 'u' || takes[place] == 'r';
-            const char *wrong = whole ? "no whole number of 64 bits"
-                                      : "neither eight hexadecimal digits nor a decimal: past six digits it needs a point";
             snprintf(request->reason, sizeof request->reason, "%s: %.*s is '%.40s', which is %s", request->routine->name,
                      length, name, field, wrong);
             return false;
@@ -120,11 +135,25 @@ static bool read_fields(struct request *request, char *rest) {
     return true;
 }
 
+/* Null, or what is wrong with a line before its fields are looked at. */
+static const char *wrong_line(const char *line, size_t length) {
+    char last = length == 0 ? '\0' : line[length - 1];
+    if (last == '\r')
+        return "the line ends in a carriage return";
+    return last == ' ' || strstr(line, "  ") != NULL ? "one space between fields, none at the end" : NULL;
+}
+
 bool read_request(char *line, struct request *request) {
     size_t most = strlen(line);
+    *request = (struct request){.routine = NULL};
+    const char *wrong = wrong_line(line, most);
+    if (wrong != NULL) {
+        snprintf(request->reason, sizeof request->reason, "%s", wrong);
+        return false;
+    }
     char *rest = line;
     char *name = next_field(&rest);
-    *request = (struct request){.routine = routine_named(name)};
+    request->routine = routine_named(name);
     if (request->routine == NULL) {
         snprintf(request->reason, sizeof request->reason, "no routine is named '%.60s'", name);
         return false;
