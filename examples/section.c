@@ -2,7 +2,7 @@
  * Clips a hatch list, then lists the pixels of two strokes and the tiles of a box.
  *
  *   ./install PREFIX
- *   cc -std=c11 -IPREFIX/include examples/section.c -LPREFIX/lib -lbagnoszyk -o section
+ *   cc -std=c99 -IPREFIX/include examples/section.c -LPREFIX/lib -lbagnoszyk -o section
  *   ./section examples/section.hsl
  */
 #include <bagnoszyk.h>

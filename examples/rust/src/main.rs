@@ -73,9 +73,9 @@ fn print_list(what: &str, list: &[u32]) {
 
 fn run(bytes: &[u8]) -> Result<(), Refusal> {
     let mut floats = vec![0.0; HATCH_FLOATS_MAX];
-    let records = hatch::read_floats(bytes, &mut floats)?;
-    let (records, _) = floats[..8 * records.count].as_chunks();
-    print_section(&records.iter().map(Line::new).collect::<Vec<_>>());
+    let count = hatch::read_floats(bytes, &mut floats)?.count;
+    let records = floats.chunks_exact(8).take(count).filter_map(<[f32]>::first_chunk);
+    print_section(&records.map(Line::new).collect::<Vec<_>>());
 
     // A stroke and its falling twin, in an image of 8 by 8 pixels.
     let mut list = [0; 16];
