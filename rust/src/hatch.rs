@@ -76,7 +76,7 @@ pub fn read_floats(bytes: &[u8], out: &mut [f32]) -> Result<Read, Refusal> {
 ///
 /// # Errors
 ///
-/// as [`hatch::read_floats`](crate::hatch::read_floats) is.
+/// The refusals of [`hatch::read_floats`](crate::hatch::read_floats), in the same order.
 ///
 /// # Example
 ///

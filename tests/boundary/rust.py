@@ -11,7 +11,8 @@ def documentation(f, model, indent=0):
     """What a function answers, when it refuses, and an example that runs as a test."""
     parts = [list(comment(text, model, indent)) for text in f.comment.text]
     if f.comment.refused:
-        parts += [[" " * indent + "/// # Errors"], list(comment(f.comment.refused, model, indent))]
+        refused = re.sub(r"^as (`\w+::\w+`) is\.$", r"The refusals of \1, in the same order.", f.comment.refused)
+        parts += [[" " * indent + "/// # Errors"], list(comment(refused, model, indent))]
     code = ["```", *example.code(f, model), "```"]
     parts += [[" " * indent + "/// # Example"], [f"{' ' * indent}/// {line}".rstrip() for line in code]]
     for i, part in enumerate(parts):
