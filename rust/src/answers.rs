@@ -43,7 +43,6 @@ pub struct Read {
     pub count: usize,
 }
 
-#[doc(hidden)]
 #[repr(C)]
 pub struct FloatAnswer {
     pub status: u32,
@@ -62,7 +61,6 @@ impl FloatAnswer {
     }
 }
 
-#[doc(hidden)]
 #[repr(C)]
 pub struct PointAnswer {
     pub status: u32,
@@ -81,7 +79,6 @@ impl PointAnswer {
     }
 }
 
-#[doc(hidden)]
 #[repr(C)]
 pub struct BoxAnswer {
     pub status: u32,
@@ -95,7 +92,6 @@ impl BoxAnswer {
     }
 }
 
-#[doc(hidden)]
 #[repr(C)]
 pub struct IntervalAnswer {
     pub status: u32,
@@ -112,7 +108,6 @@ impl IntervalAnswer {
     }
 }
 
-#[doc(hidden)]
 #[repr(C)]
 pub struct PixelsAnswer {
     pub status: u32,
@@ -133,7 +128,6 @@ impl PixelsAnswer {
     }
 }
 
-#[doc(hidden)]
 #[repr(C)]
 pub struct CountAnswer {
     pub status: u32,
@@ -147,7 +141,6 @@ impl CountAnswer {
     }
 }
 
-#[doc(hidden)]
 #[repr(C)]
 pub struct ReadAnswer {
     pub status: u32,

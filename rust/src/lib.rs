@@ -33,7 +33,7 @@
 
 pub mod aabb;
 pub mod aabb2;
-pub mod answers;
+mod answers;
 pub mod edge2;
 pub mod f32;
 pub mod hatch;

@@ -125,7 +125,7 @@ def answers_file(model):
             yield from struct(answer_name(s), s.answered, [*about(s, model), derived])
     for s in answers:
         yield ""
-        yield from struct(s.name, s.fields, ["#[doc(hidden)]", "#[repr(C)]"])
+        yield from struct(s.name, s.fields, ["#[repr(C)]"])
         yield ""
         yield from methods(s, model)
     yield CONVERSIONS
