@@ -6,7 +6,7 @@ use std::error::Error;
 use std::fmt;
 
 /// Why a call was refused. Its number is the status that the C function gives.
-#[derive(Clone, Copy, Debug, PartialEq, Eq, Hash)]
+#[derive(Clone, Copy, PartialEq, Eq, Hash)]
 pub struct Refusal(u32);
 
 impl Refusal {
@@ -59,28 +59,41 @@ impl Refusal {
     pub(crate) const fn numbered(number: u32) -> Self {
         Refusal(number)
     }
+
+    const fn name_and_text(self) -> (&'static str, &'static str) {
+        match self {
+            Refusal::ROOM => ("ROOM", "a lent list is shorter than what is to be written"),
+            Refusal::SAME_ENDS => ("SAME_ENDS", "both ends of a stroke are equal"),
+            Refusal::COORDINATE => ("COORDINATE", "a coordinate is not finite, or too large"),
+            Refusal::SIZE => (
+                "SIZE",
+                "a side of an image or a sheet is too large, or a tile size is 0 or too large",
+            ),
+            Refusal::ORDER => ("ORDER", "a range is not ordered: low is not at most high"),
+            Refusal::RADIUS => ("RADIUS", "a radius is not at least 0"),
+            Refusal::NAN_LENGTH => ("NAN_LENGTH", "a length to the turned box is NaN"),
+            Refusal::NO_IMAGE => ("NO_IMAGE", "a corner has no image"),
+            Refusal::INDEX => ("INDEX", "an index is not below the number of boxes"),
+            Refusal::MARK => ("MARK", "a hatch list does not begin with its mark"),
+            Refusal::VERSION => ("VERSION", "a hatch list has an unknown version"),
+            Refusal::COUNT => ("COUNT", "a hatch list has too many records"),
+            Refusal::LENGTH => ("LENGTH", "the bytes of a hatch list are too few or too many"),
+            _ => ("UNKNOWN", "not a refusal of this library"),
+        }
+    }
 }
 
 impl fmt::Display for Refusal {
     fn fmt(&self, f: &mut fmt::Formatter<'_>) -> fmt::Result {
-        f.write_str(match *self {
-            Refusal::ROOM => "a lent list is shorter than what is to be written",
-            Refusal::SAME_ENDS => "both ends of a stroke are equal",
-            Refusal::COORDINATE => "a coordinate is not finite, or too large",
-            Refusal::SIZE => {
-                "a side of an image or a sheet is too large, or a tile size is 0 or too large"
-            }
-            Refusal::ORDER => "a range is not ordered: low is not at most high",
-            Refusal::RADIUS => "a radius is not at least 0",
-            Refusal::NAN_LENGTH => "a length to the turned box is NaN",
-            Refusal::NO_IMAGE => "a corner has no image",
-            Refusal::INDEX => "an index is not below the number of boxes",
-            Refusal::MARK => "a hatch list does not begin with its mark",
-            Refusal::VERSION => "a hatch list has an unknown version",
-            Refusal::COUNT => "a hatch list has too many records",
-            Refusal::LENGTH => "the bytes of a hatch list are too few or too many",
-            Refusal(number) => return write!(f, "refusal {number}"),
-        })
+        f.write_str(self.name_and_text().1)
+    }
+}
+
+/// Name, number and text, for the message of a panic.
+impl fmt::Debug for Refusal {
+    fn fmt(&self, f: &mut fmt::Formatter<'_>) -> fmt::Result {
+        let (name, text) = self.name_and_text();
+        write!(f, "{name} ({}): {text}", self.0)
     }
 }
 

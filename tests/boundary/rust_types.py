@@ -139,7 +139,7 @@ use std::error::Error;
 use std::fmt;
 
 /// Why a call was refused. Its number is the status that the C function gives.
-#[derive(Clone, Copy, Debug, PartialEq, Eq, Hash)]
+#[derive(Clone, Copy, PartialEq, Eq, Hash)]
 pub struct Refusal(u32);
 
 impl Refusal {
@@ -155,24 +155,38 @@ impl Refusal {
     pub(crate) const fn numbered(number: u32) -> Self {
         Refusal(number)
     }
+
+    const fn name_and_text(self) -> (&'static str, &'static str) {
+        match self {
+@ARMS@
+            _ => ("UNKNOWN", "not a refusal of this library"),
+        }
+    }
 }
 
 impl fmt::Display for Refusal {
     fn fmt(&self, f: &mut fmt::Formatter<'_>) -> fmt::Result {
-        f.write_str(match *self {
-@TEXTS@
-            Refusal(number) => return write!(f, "refusal {number}"),
-        })
+        f.write_str(self.name_and_text().1)
+    }
+}
+
+/// Name, number and text, for the message of a panic.
+impl fmt::Debug for Refusal {
+    fn fmt(&self, f: &mut fmt::Formatter<'_>) -> fmt::Result {
+        let (name, text) = self.name_and_text();
+        write!(f, "{name} ({}): {text}", self.0)
     }
 }
 
 impl Error for Refusal {}"""
 
 
-def refusal_text(r):
+def refusal_arm(r):
     text = f'"{r.text[0].lower()}{r.text[1:].removesuffix(".")}"'
-    arm = f"            Refusal::{r.name} => {text},"
-    return arm if len(arm) <= WIDTH else f"            Refusal::{r.name} => {{\n                {text}\n            }}"
+    arm = f'            Refusal::{r.name} => ("{r.name}", {text}),'
+    if len(arm) <= WIDTH:
+        return arm
+    return f'            Refusal::{r.name} => (\n                "{r.name}",\n                {text},\n            ),'
 
 
 def refusal_file(model):
@@ -183,7 +197,7 @@ def refusal_file(model):
     yield "//!"
     yield from origin("crates/types/src/refusal.rt")
     yield ""
-    yield REFUSAL.replace("@CONSTANTS@", "\n\n".join(constants)).replace("@TEXTS@", "\n".join(map(refusal_text, model.refusals)))
+    yield REFUSAL.replace("@CONSTANTS@", "\n\n".join(constants)).replace("@ARMS@", "\n".join(map(refusal_arm, model.refusals)))
 
 
 def limits_file(model):
