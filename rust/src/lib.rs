@@ -1,7 +1,9 @@
 //! Geometry for patent drawings in f32, proved: the library's C ABI as safe Rust, a file for each module.
 //!
-//! Every function takes any bits and ends. What may be missing is an [`Option`], and what may be refused a [`Result`] with a [`Refusal`]. A
-//! lent list is written from its start, its other entries stay as they are, and a refused call changes nothing.
+//! Every function takes any bits and ends. What may be missing is an [`Option`], and what may be refused a [`Result`] with a [`Refusal`].
+//! Under Errors the conditions stand in the order in which they are tested; the first that holds is the refusal. A lent list is written
+//! from its start, its other entries stay as they are, and a refused call changes nothing. Functions keep no state; threads may call at the
+//! same time.
 //!
 //! ```
 //! use bagnoszyk::{Aabb2, Refusal, Vec2, aabb, aabb2};
@@ -18,7 +20,24 @@
 //! let refused = aabb2::nearest_point2(reversed, Vec2 { x: 0.0, y: 0.0 }).unwrap_err();
 //! assert_eq!(refused, Refusal::ORDER);
 //! assert_eq!(refused.to_string(), "a range is not ordered: low is not at most high");
+//! assert_eq!(format!("{refused:?}"), "ORDER (5): a range is not ordered: low is not at most high");
 //! ```
+//!
+//! # Floats
+//!
+//! Each operation is rounded to the nearest float, ties to even, as IEEE 754 has it. The caller must leave the rounding mode as it is at the
+//! start of a program, and subnormal numbers on. Else answers may be others; that calls still end and keep to their lists is tested, and not
+//! proved.
+//!
+//! A comparison with a NaN is false, and an answer that is a NaN may have any NaN's bits. +0 and -0 are equal in every comparison. A minimum
+//! or maximum gives the first of two equal zeros, and drops a NaN if the other is a number.
+//!
+//! # Axes
+//!
+//! x grows with the column and y with the row. A line rises where y grows with x, as in direction (1, 1), and falls where it shrinks, as in
+//! direction (1, -1). On a screen with row 0 on top a line that rises so goes down to the right.
+//!
+//! # Building
 //!
 //! To build against an installed library, run `./install PREFIX` in the repository, name this folder in your Cargo.toml,
 //! `bagnoszyk = { path = "REPOSITORY/rust" }`, and let BAGNOSZYK_STATICLIB name the archive's folder by its whole path:
