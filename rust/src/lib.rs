@@ -52,7 +52,8 @@
 
 pub mod aabb;
 pub mod aabb2;
-mod answers;
+#[doc(hidden)]
+pub mod answers;
 pub mod edge2;
 pub mod f32;
 pub mod hatch;

@@ -2,9 +2,7 @@
 //!
 //! None of these may be inlined: a call into the library is not.
 
-mod answers;
-
-use answers::{ANSWERED, CountAnswer, IntervalAnswer, NONE, PointAnswer, ReadAnswer};
+use bagnoszyk::answers::{ANSWERED, CountAnswer, IntervalAnswer, NONE, PointAnswer, ReadAnswer};
 use bagnoszyk::shapes::{Aabb2, Obb2, OnEdge, Vec2};
 use del_geo_core::obb2::OBB2Trait;
 use del_geo_core::{aabb, aabb2, edge2};
