@@ -7,7 +7,7 @@
 /* Entries behind a lent list that are looked at with it. */
 enum { GUARD = 16 };
 
-/* No routine lists more: every tile of the largest sheet. */
+/* No routine lists more, but for one entry a float of a list that it reads: every tile of the largest sheet. */
 static const uint64_t MOST_ENTRIES = UINT64_C(16384) * 16384;
 
 const size_t ask_sizes[3] = {sizeof(struct routine), sizeof(struct reply), sizeof(struct request)};
@@ -69,13 +69,15 @@ static size_t place_of_room(const char *takes) {
 struct reply ask(const struct routine *routine, const float *floats, size_t float_count, const uint64_t *wholes) {
     struct arguments in = {.floats = floats, .wholes = wholes};
     struct reply reply = {.list = NULL};
-    if (routine->lists[0] == 'F') {
-        size_t single = single_floats(routine->takes);
-        in.lists[0] = (struct list){(void *)(floats + single), float_count - single};
-    } else if (routine->lists[0] == 'u') {
-        uint64_t room = wholes[place_of_room(routine->takes)];
-        in.lists[0].length = room < MOST_ENTRIES ? room : MOST_ENTRIES;
-        in.lists[0].start = reply.list = lend(in.lists[0].length);
+    for (size_t i = 0; routine->lists[i] != '\0'; i++) {
+        if (routine->lists[i] == 'F') {
+            size_t single = single_floats(routine->takes);
+            in.lists[i] = (struct list){(void *)(floats + single), float_count - single};
+        } else {
+            uint64_t room = wholes[place_of_room(routine->takes)], most = MOST_ENTRIES + float_count;
+            in.lists[i].length = room < most ? room : most;
+            in.lists[i].start = reply.list = lend(in.lists[i].length);
+        }
     }
     routine->call(&in, &reply.answer);
     bool answered = reply.answer.status == BGZ_ANSWERED;

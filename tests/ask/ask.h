@@ -8,7 +8,7 @@
 /* What came back from a routine. */
 struct reply {
     struct answer answer;
-    /* The list that was lent, if one was; the asker frees it. */
+    /* The list that was lent, if one was, of whole numbers or of floats; the asker frees it. */
     uint32_t *list;
     /* Something was touched that should not have been: an entry of a list, a lent shape in a refused call. */
     bool damaged;

@@ -38,7 +38,7 @@ static void told_and_refused(const struct arguments *in, struct answer *out) {
 
 static void unknown_status(const struct arguments *in, struct answer *out) {
     refused(in, out);
-    out->status = 14;
+    out->status = last_refusal + 1;
 }
 
 /* Endless, but for who looks at the memory. */
@@ -52,7 +52,7 @@ static void endless(const struct arguments *in, struct answer *out) {
 static void changing(const struct arguments *in, struct answer *out) {
     static uint32_t calls;
     refused(in, out);
-    out->status = 1 + __sync_fetch_and_add(&calls, 1) % 13;
+    out->status = 1 + __sync_fetch_and_add(&calls, 1) % last_refusal;
 }
 
 #define ROW(name) {#name, #name, name, "r", "u", "l", "room"}

@@ -195,16 +195,23 @@ char *request_text(const struct routine *routine, const float *floats, size_t fl
     return text;
 }
 
-static void write_value(FILE *out, char letter, union value value, const uint32_t *list, bool decimal) {
+static void write_value(FILE *out, char letter, union value value, bool decimal) {
     if (letter == 'f')
         write_float(out, value.f, decimal);
     else if (letter == 'i')
         fprintf(out, "%" PRId64, value.i);
     else
         fprintf(out, "%" PRIu64, value.u);
-    if (letter == 'l')
-        for (uint64_t i = 0; i < value.u; i++)
-            fprintf(out, " %" PRIu32, list[i]);
+}
+
+static void write_entries(FILE *out, bool floats, const uint32_t *list, uint64_t count, bool decimal) {
+    for (uint64_t i = 0; i < count; i++) {
+        fputs(" ", out);
+        if (floats)
+            write_float(out, ((const float *)list)[i], decimal);
+        else
+            fprintf(out, "%" PRIu32, list[i]);
+    }
 }
 
 char *reply_text(const struct routine *routine, const struct reply *reply, bool decimal) {
@@ -220,7 +227,9 @@ char *reply_text(const struct routine *routine, const struct reply *reply, bool 
     else
         for (size_t i = 0; routine->gives[i] != '\0'; i++) {
             fputs(i == 0 ? "" : " ", out);
-            write_value(out, routine->gives[i], reply->answer.values[i], reply->list, decimal);
+            write_value(out, routine->gives[i], reply->answer.values[i], decimal);
+            if (routine->gives[i] == 'l')
+                write_entries(out, routine->lists[0] == 'f', reply->list, reply->answer.values[i].u, decimal);
         }
     fclose(out);
     return text;

@@ -5,6 +5,8 @@ RECORDS = 2000
 
 LIMITS = (
     ("IMAGE_SIDE_MAX", SIDE, "The longest side of an image in pixels, and of a sheet in tiles."),
+    ("LINE_FLOATS", 4, "The floats of a line in a list of lines."),
+    ("LINE_RESULT_FLOATS", 3, "The floats that a line gives in a list of results."),
     ("STROKE_COORDINATE_MAX", 65536, "The largest coordinate of a stroke's ends, in size."),
     ("STROKE_ENTRIES_MAX", SIDE + 1, "Room for the entries of any stroke."),
     ("TILE_COORDINATE_MAX", 1048576, "The largest coordinate of a box whose tiles are listed, in size."),

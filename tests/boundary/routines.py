@@ -12,6 +12,7 @@ WIDTH = 120
 # Requests whose names are not the functions'.
 NAMES = {
     "bgz_aabb_intersections_against_line": "aabb.line",
+    "bgz_aabb_intersections_against_lines": "aabb.lines",
     "bgz_aabb_intersections_against_ray": "aabb.ray",
     "bgz_aabb_is_include_point": "aabb.include",
 }

@@ -133,21 +133,33 @@ static void mix(uint64_t *digest, uint64_t value) {
 }
 
 /* A NaN may have any bits. */
+static void mix_float(uint64_t *digest, float x) {
+    uint32_t bits;
+    memcpy(&bits, &x, sizeof bits);
+    mix(digest, x != x ? 1 : bits);
+}
+
+static void mix_list(struct caller *caller, size_t i) {
+    const struct list *list = &caller->in.lists[i];
+    if (caller->routine->lists[i] == 'f')
+        for (size_t k = 0; k < list->length; k++)
+            mix_float(&caller->digest, ((const float *)list->start)[k]);
+    else
+        for (size_t k = 0; k < bytes_of(caller, i); k++)
+            mix(&caller->digest, ((const unsigned char *)list->start)[k]);
+}
+
 static void digest(struct caller *caller, const struct answer *out) {
     mix(&caller->digest, out->status);
     for (size_t i = 0; caller->routine->gives[i] != '\0'; i++) {
-        uint32_t bits;
-        memcpy(&bits, &out->values[i].f, sizeof bits);
-        if (caller->routine->gives[i] != 'f')
-            mix(&caller->digest, out->values[i].u);
+        if (caller->routine->gives[i] == 'f')
+            mix_float(&caller->digest, out->values[i].f);
         else
-            mix(&caller->digest, out->values[i].f != out->values[i].f ? 1 : bits);
+            mix(&caller->digest, out->values[i].u);
     }
-    for (size_t i = 0; caller->routine->lists[i] == 'u' || caller->routine->lists[i] == 'b'; i++) {
-        const unsigned char *bytes = caller->in.lists[i].start;
-        for (size_t k = 0; k < bytes_of(caller, i); k++)
-            mix(&caller->digest, bytes[k]);
-    }
+    for (size_t i = 0; caller->routine->lists[i] != '\0'; i++)
+        if (!is_read(caller->routine->lists[i]))
+            mix_list(caller, i);
 }
 
 /* ---- calls */

@@ -8,7 +8,7 @@ ghost use Rattle.aabb.specs.Clip.{slabXOf, slabYOf, intersectionsAgainst
 ghost use Rattle.aabb.specs.Inside.{withinOf, isIncludePointOf, centerOf};
 
 // The box and the line, seen in one dimension.
-fn slab_x(b: Aabb2, origin: Vec2, direction: Vec2) -> Slab
+pub fn slab_x(b: Aabb2, origin: Vec2, direction: Vec2) -> Slab
     ensures { λ r. ⌜ r ≡ slabXOf b origin direction ⌝ }
 {
     Slab {
@@ -19,7 +19,7 @@ fn slab_x(b: Aabb2, origin: Vec2, direction: Vec2) -> Slab
     }
 }
 
-fn slab_y(b: Aabb2, origin: Vec2, direction: Vec2) -> Slab
+pub fn slab_y(b: Aabb2, origin: Vec2, direction: Vec2) -> Slab
     ensures { λ r. ⌜ r ≡ slabYOf b origin direction ⌝ }
 {
     Slab {

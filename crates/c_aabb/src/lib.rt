@@ -1,11 +1,16 @@
 // Upright boxes: clipping lines, and what is inside.
+use c_answers::CountAnswer;
 use c_answers::IntervalAnswer;
 use types::Aabb2;
 use types::Vec2;
 ghost use mathlib.Core.Path.{_≡_};
-ghost use Rattle.c_answers.specs.Answers.{ofInterval};
+ghost use lib.ListN.{length};
+ghost use Rattle.lists.specs.Lent.{leaves};
+ghost use Rattle.c_answers.specs.Answers.{ofInterval, ofListed};
 ghost use Rattle.aabb.specs.Clip.{intersectionsAgainstLineOf, intersectionsAgainstRayOf};
 ghost use Rattle.aabb.specs.Inside.{isIncludePointOf, centerOf};
+ghost use Rattle.aabb_lines.specs.Results.{resultsOf};
+ghost use Rattle.aabb_lines.specs.Answer.{intersectionsAgainstLinesOf};
 
 // The stretch of the line `origin` + t * `direction` in the box `b`: tmin <= tmax, both finite. None if the line misses `b`;
 // touching an edge or a corner is a hit. Where a component of `direction` is a zero, that dimension only tests that `origin` is not
@@ -35,6 +40,24 @@ pub extern "C" fn bgz_aabb_intersections_against_ray(
     ensures { λ r. ⌜ r ≡ ofInterval (intersectionsAgainstRayOf b origin direction) ⌝ }
 {
     c_answers::interval(aabb::intersections_against_ray(b, origin, direction))
+}
+
+// The lines of a whole face against the box `b` in one call, each answered as `aabb::intersections_against_line` does. A line is four floats of
+// `lines`: x and y of its origin, x and y of its direction. A result is three floats: 1, tmin and tmax for a hit, and three zeros for a
+// miss. There may be any number of lines, none too.
+// Writes the results of the lines in turn to the start of `out` and answers how many entries they are, three a line.
+// Refused: `LINES` if the length of `lines` is not a multiple of 4; `ROOM` if `out` is shorter than the results.
+// Example: (0, 0, 4, 2), [6, -1, -1, 1, 6, -1, 1, 1], [9; 8] gives 6 and leaves [1, 2, 3, 0, 0, 0, 9, 9].
+#[no_mangle]
+pub extern "C" fn bgz_aabb_intersections_against_lines(
+    b: Aabb2,
+    lines: &[f32],
+    out: &mut [f32],
+) -> CountAnswer
+    ensures answers { λ r. ⌜ r ≡ ofListed (intersectionsAgainstLinesOf b (now (lines .entry)) (length (now (out .entry)))) ⌝ }
+    ensures leaves { λ _. ⌜ now (out .exit) ≡ leaves (intersectionsAgainstLinesOf b (now (lines .entry)) (length (now (out .entry)))) (resultsOf b (now (lines .entry))) (now (out .entry)) ⌝ }
+{
+    c_answers::listed(aabb_lines::intersections_against_lines(b, lines, out))
 }
 
 // Whether `p` is in `b`, edges included. A NaN is outside.

@@ -4,6 +4,8 @@ use lib.Ieee.{round, ofInt, ofBits, neg, add, sub, mul, div, lt, le, ne, eq, isN
 use Rattle.float.specs.Values.{absOf, minOf, maxOf}
 use Rattle.rounding.specs.Values.{wholeOf, ceilOf}
 use Rattle.aabb.specs.Clip.{narrowedOf, narrowAll, orderedOf, clipOver, aheadOf, intersectionsAgainstLineOf, intersectionsAgainstRayOf}
+use Rattle.aabb_lines.specs.Results.{encodedOf, resultsOf}
+use Rattle.aabb_lines.specs.Answer.{intersectionsAgainstLinesOf}
 use Rattle.range.specs.Values.{intersectionLengthOf}
 use Rattle.aabb2_raster.specs.Raster.{rasterizeOf}
 use Rattle.tiles.specs.Tiles.{tilesOf}
@@ -20,6 +22,7 @@ use Rattle.figures.specs.Claim.{FiguresHold}
 pub hold : FiguresHold
 unfolding round ofInt ofBits neg add sub mul div lt le ne eq isNan toUnsigned absOf minOf maxOf wholeOf ceilOf
     narrowedOf narrowAll orderedOf clipOver aheadOf intersectionsAgainstLineOf intersectionsAgainstRayOf intersectionLengthOf rasterizeOf
+    encodedOf resultsOf intersectionsAgainstLinesOf
     tilesOf overlappingTilesOf
     stepOf axisOf at within inRanges firstOutside exit upto positions onSide inSides number kept pixels entries strokeOf
     sidesTooLarge withinLimit firstOffender sameEnds fitted overlappingPixelsDdaOf
@@ -27,4 +30,5 @@ hold = (
   (refl, (refl, (refl, (refl, (refl, (refl, (refl, (refl, (refl, ((refl, refl), ((refl, refl), ((refl, refl), ((refl, refl, refl), tt))))))))))))),
   (refl, (refl, (refl, (refl, (refl, (refl, ((refl, refl, refl), tt))))))),
   ((refl, refl), ((refl, refl, refl), ((refl, refl, refl), ((refl, refl, refl), ((refl, refl, refl), ((refl, refl, refl), ((refl, refl, refl), tt))))))),
+  ((refl, refl), ((refl, refl), ((refl, refl), (refl, (refl, (refl, tt)))))),
 )

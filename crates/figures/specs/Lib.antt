@@ -2,4 +2,5 @@ pub mod Table
 pub mod Starred
 pub mod Twins
 pub mod Further
+pub mod Faces
 pub mod Claim

@@ -15,6 +15,8 @@ use Rattle.types.specs.declared.answer.Pixels.{Pixels}
 use Rattle.types.specs.declared.answer.Listed.the-variants.{Count, Refused}
 use Rattle.range.specs.Values.{intersectionLengthOf}
 use Rattle.aabb.specs.Clip.{intersectionsAgainstLineOf, intersectionsAgainstRayOf}
+use Rattle.aabb_lines.specs.Results.{resultsOf}
+use Rattle.aabb_lines.specs.Answer.{intersectionsAgainstLinesOf}
 use Rattle.aabb2_raster.specs.Raster.{rasterizeOf}
 use Rattle.tiles.specs.Sheet.{Sheet}
 use Rattle.tiles.specs.Tiles.{tilesOf}
@@ -52,6 +54,14 @@ line b point direction answer = intersectionsAgainstLineOf b point direction ≡
 
 abbrev pub ray : Aabb2 → Vec2 → Vec2 → Interval → Type 0
 ray b point direction answer = intersectionsAgainstRayOf b point direction ≡ answer
+
+-- the lines of a face by their floats: the results are these, and a list with just room for them is accepted
+abbrev pub face : Aabb2 → List Float → List Float → Type 0
+face b lines results = (resultsOf b lines ≡ results) × (intersectionsAgainstLinesOf b lines (length results) ≡ Count (length results))
+
+-- they are refused by this number, for a list of results of this length
+abbrev pub faceRefused : Aabb2 → List Float → ℕ → ℕ → Type 0
+faceRefused b lines room number = intersectionsAgainstLinesOf b lines room ≡ Refused number
 
 abbrev pub overlap : Range → Range → Extent → Type 0
 overlap a b answer = intersectionLengthOf a b ≡ answer

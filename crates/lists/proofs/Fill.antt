@@ -1,11 +1,12 @@
 -- A loop that fills a list from the front, one entry a turn. Assumes nothing.
 use mathlib.Core.Path.{_≡_, refl, sym, ap, _∙_}
-use mathlib.Core.List.{List, [], _∷_, _++_}
+use mathlib.Core.List.{List, [], _∷_, _++_, append-nil}
 use Prim.Native.Nat.{ℕ, zero, suc, _+_, _<_, _≤_}
+use native.Mathlib.Nat.{add-zero}
 use native.Mathlib.Numerals.{add-one}
 use native.Mathlib.Omega.{arith}
 use lib.ListN.{length, getD, set, drop, length-append, length-drop}
-use lib.Seq.{drop-cons, set-at, append-snoc}
+use lib.Seq.{drop-cons, set-at, append-snoc, sets}
 use Rattle.lists.specs.Places.{upto}
 
 -- a store right after the n entries that are written; d is any value of the type
@@ -14,6 +15,18 @@ pub store-next : {A : Type 0} (d : A) (es l : List A) (n : ℕ) (v : A) → leng
 store-next {A} d es l n v e h =
     ap (λ (t : List A). set (es ++ t) n v) (drop-cons l n d h) ∙ set-at es (getD l n d) (drop (suc n) l) v n e
     ∙ sym (append-snoc es v (drop (suc n) l))
+
+-- several stores, one right after the other
+pub store-all : {A : Type 0} (d : A) (vs es l : List A) (n : ℕ) → length es ≡ n → n + length vs ≤ length l
+    → sets (es ++ drop n l) n vs ≡ (es ++ vs) ++ drop (n + length vs) l
+store-all {A} d [] es l n e h = sym (rw (append-nil es, add-zero n) refl)
+store-all {A} d (v ∷ vs) es l n e h =
+    let longer : length (es ++ (v ∷ [])) ≡ suc n = length-append es (v ∷ []) ∙ omega (arith, e) in
+    let place : suc n + length vs ≡ n + length (v ∷ vs) = omega arith in
+    ap (λ (t : List A). sets t (suc n) vs) (store-next d es l n v e (omega (arith, h)))
+    ∙ store-all d vs (es ++ (v ∷ [])) l (suc n) longer (omega (arith, h))
+    ∙ ap (λ (t : List A). t ++ drop (suc n + length vs) l) (append-snoc es v vs)
+    ∙ ap (λ (k : ℕ). (es ++ v ∷ vs) ++ drop k l) place
 
 pub length-upto : {A : Type 0} (f : ℕ → A) (n : ℕ) → length (upto f n) ≡ n
 unfolding upto

@@ -1,4 +1,4 @@
-// The refusal numbers of document 01, named once.
+// The refusal numbers of documents 01 and 02, named once.
 
 // A lent list is shorter than what is to be written.
 pub const ROOM: u32 = 1;
@@ -26,3 +26,5 @@ pub const VERSION: u32 = 11;
 pub const COUNT: u32 = 12;
 // The bytes of a hatch list are too few or too many.
 pub const LENGTH: u32 = 13;
+// A list of lines is not a multiple of four floats.
+pub const LINES: u32 = 14;

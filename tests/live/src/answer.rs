@@ -13,7 +13,7 @@ pub struct Answer {
     count: usize,
     /// Floats by their bits, whole numbers as they are, negative ones in two's complement.
     values: [u64; MOST_VALUES],
-    /// What was written to a lent list; its count is the one number.
+    /// What was written to a lent list, floats by their bits; its count is the one number.
     pub list: Vec<u32>,
     /// A lent list was touched where it should not have been.
     pub damaged: bool,
@@ -35,10 +35,14 @@ impl Answer {
     }
 
     pub fn push_float(&mut self, x: f32) {
-        // Adding +0 turns -0 into +0 and changes no other number.
-        let one = if x.is_nan() { f32::NAN } else { x + 0.0 };
-        self.push(one.to_bits().into());
+        self.push(bits(x).into());
     }
+}
+
+/// The bits of a float; one pattern for all zeros, and one for all NaNs.
+pub fn bits(x: f32) -> u32 {
+    // Adding +0 turns -0 into +0 and changes no other number.
+    if x.is_nan() { f32::NAN } else { x + 0.0 }.to_bits()
 }
 
 /// The same number: zeros of either sign are equal, and all NaNs are.
@@ -96,6 +100,12 @@ impl From<Vec<u32>> for Answer {
     fn from(list: Vec<u32>) -> Self {
         let count = Answer::from(list.len() as u64);
         Answer { list, ..count }
+    }
+}
+
+impl From<Vec<f32>> for Answer {
+    fn from(list: Vec<f32>) -> Self {
+        list.into_iter().map(bits).collect::<Vec<_>>().into()
     }
 }
 

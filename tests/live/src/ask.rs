@@ -1,6 +1,6 @@
 //! The library, asked through the table that ./ask has: numbers in, numbers out. Only what is printed goes through text.
 
-use crate::answer::{Answer, MOST_VALUES};
+use crate::answer::{Answer, MOST_VALUES, bits};
 use std::ffi::{CStr, CString, c_char, c_void};
 use std::{ptr, slice};
 
@@ -133,6 +133,12 @@ impl Routine {
         unsafe { CStr::from_ptr(self.gives) }.to_bytes()
     }
 
+    /// An entry of a list that was lent to it, such that equal ones compare equal.
+    fn entry(&self, entry: u32) -> u32 {
+        let floats = unsafe { CStr::from_ptr(self.lists) }.to_bytes().starts_with(b"f");
+        if floats { bits(f32::from_bits(entry)) } else { entry }
+    }
+
     /// The library's answer.
     pub fn ask(&self, args: &Args) -> Answer {
         let (floats, wholes) = (&args.floats, &args.wholes);
@@ -148,7 +154,8 @@ impl Routine {
             }
             if !reply.list.is_null() {
                 let count = unsafe { reply.values[0].whole } as usize;
-                answer.list = unsafe { slice::from_raw_parts(reply.list, count) }.to_vec();
+                let list = unsafe { slice::from_raw_parts(reply.list, count) };
+                answer.list = list.iter().map(|entry| self.entry(*entry)).collect();
             }
         }
         unsafe { c::free(reply.list.cast()) };

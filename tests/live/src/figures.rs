@@ -1,4 +1,4 @@
-//! Document 01's figures with known results, put to the Rust and to the library.
+//! The figures with known results, put to the Rust and to the library.
 
 use crate::ask::{self, Args};
 use crate::inputs::mirror;
@@ -37,8 +37,8 @@ fn twins(figure: &Figure) -> Result<Vec<Figure>, String> {
         let mut twin = args.clone();
         mirror(pair.row.shape, axis, &mut twin.floats);
         let answer = match pair.row.name {
-            // A line and its box are mirrored: the parameters of its ends stay.
-            "aabb.line" | "aabb.ray" => figure.answer.clone(),
+            // Lines and their box are mirrored: the parameters of their ends stay.
+            "aabb.line" | "aabb.lines" | "aabb.ray" => figure.answer.clone(),
             // A stroke is mirrored within its bounds: other pixels, which the Rust tells.
             "edge2.overlapping_pixels_dda" => pair.rust_line(&twin)?,
             _ => continue,
@@ -57,7 +57,7 @@ pub fn check() -> Result<usize, String> {
         let ours = pair.routine.show(&pair.routine.ask(&args));
         if rust != *answer || ours != *answer {
             return Err(format!(
-                "{request}\n  document 01: {answer}\n  library: {ours}\n  Rust:    {rust}"
+                "{request}\n  figure:  {answer}\n  library: {ours}\n  Rust:    {rust}"
             ));
         }
     }

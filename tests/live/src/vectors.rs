@@ -1,5 +1,5 @@
 //! Requests with the Rust's answers, for a replay without the Rust: `f32.floor c0200000 = c0400000`.
-//! Document 01's figures come first.
+//! The figures with known results come first.
 
 use crate::figures;
 use crate::inputs::Inputs;

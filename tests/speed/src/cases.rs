@@ -1,6 +1,7 @@
 //! What is timed. Each case first checks that both sides give the same answers on its inputs.
 
 mod clip;
+mod face;
 mod file;
 mod nearest;
 mod root;
@@ -16,6 +17,7 @@ use std::rc::Rc;
 pub fn compared() -> Vec<Case> {
     [
         clip::cases(),
+        face::cases(),
         strokes::cases(),
         tiles::cases(),
         turned::cases(),
@@ -28,7 +30,7 @@ pub fn compared() -> Vec<Case> {
     .collect()
 }
 
-/// The library alone, by the number of its pixels, tiles or records.
+/// The library alone, by the number of its lines, pixels, tiles or records.
 pub struct Sized {
     pub name: &'static str,
     pub units: usize,
@@ -36,7 +38,7 @@ pub struct Sized {
 }
 
 pub fn sized() -> Vec<Sized> {
-    [strokes::sized(), tiles::sized(), file::sized()].into_iter().flatten().collect()
+    [face::sized(), strokes::sized(), tiles::sized(), file::sized()].into_iter().flatten().collect()
 }
 
 impl Sized {

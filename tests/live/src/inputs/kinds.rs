@@ -20,6 +20,8 @@ pub enum Kind {
     Index,
     /// A list of floats.
     Floats,
+    /// Room, and a list of lines: point and direction of each.
+    Lines,
     /// Width and height of an image, two ends, room.
     Stroke,
     /// A box, the size of a tile, width and height of a sheet, room.
@@ -37,6 +39,7 @@ impl Kind {
             Kind::Matrix => "fffffffff",
             Kind::Side | Kind::Index => "u",
             Kind::Floats => "F",
+            Kind::Lines => "rF",
             Kind::Stroke => "uuffffr",
             Kind::Tiles => "ffffuuur",
         }
@@ -44,14 +47,14 @@ impl Kind {
 
     /// The number of its floats; a list has any number.
     pub fn floats(self) -> Option<usize> {
-        let letters = self.takes().bytes();
-        (self != Kind::Floats).then(|| letters.filter(|letter| *letter == b'f').count())
+        let letters = self.takes();
+        (!letters.contains('F')).then(|| letters.matches('f').count())
     }
 
     /// Whether it stands in the plane and has a mirror image.
     pub fn is_figure(self) -> bool {
         use Kind::*;
-        matches!(self, Point | Direction | Box | TurnedBox | Stroke | Tiles)
+        matches!(self, Point | Direction | Box | TurnedBox | Lines | Stroke | Tiles)
     }
 
     /// Mirrors its floats in x (axis 0) or in y (axis 1).
@@ -59,7 +62,7 @@ impl Kind {
         let negate =
             |floats: &mut [f32]| floats.iter_mut().skip(axis).step_by(2).for_each(|x| *x = -*x);
         match self {
-            Kind::Point | Kind::Direction | Kind::TurnedBox => negate(floats),
+            Kind::Point | Kind::Direction | Kind::TurnedBox | Kind::Lines => negate(floats),
             Kind::Box | Kind::Tiles => {
                 negate(floats);
                 floats.swap(axis, axis + 2);

@@ -9,13 +9,24 @@ use crate::random::Random;
 /// Adds an argument.
 pub fn make(kind: Kind, source: Source, random: &mut Random, args: &mut Args) {
     let start = args.floats.len();
-    for _ in 0..kind.floats().unwrap_or_else(|| random.below(32) as usize) {
+    for _ in 0..kind.floats().unwrap_or_else(|| list_length(kind, random)) {
         let float = source.float(&args.floats, random);
         args.floats.push(float);
     }
     let floats = &mut args.floats[start..];
     arrange(kind, floats, random);
     add_wholes(kind, floats, random, &mut args.wholes);
+}
+
+/// The floats of a list. Most lists of lines have whole lines, and some have more than are worked out at a time.
+fn list_length(kind: Kind, random: &mut Random) -> usize {
+    let most = random.pick(&[3, 8, 40]);
+    let length = match kind {
+        Kind::Lines if random.one_in(8) => random.below(4 * most),
+        Kind::Lines => 4 * random.below(most),
+        _ => random.below(32),
+    };
+    length as usize
 }
 
 /// Makes most arguments what a caller would pass: ends in order, edges at right angles.
@@ -29,6 +40,11 @@ fn arrange(kind: Kind, floats: &mut [f32], random: &mut Random) {
         }
         Kind::Direction if random.one_in(4) => {
             floats[random.below(2) as usize] = random.pick(&[0.0, -0.0]);
+        }
+        Kind::Lines => {
+            for [_, _, direction @ ..] in floats.as_chunks_mut::<4>().0 {
+                arrange(Kind::Direction, direction, random);
+            }
         }
         Kind::TurnedBox => {
             let ratio = random.pick(&[0.25, 0.5, 1.0, -2.0]);
@@ -63,6 +79,7 @@ fn add_wholes(kind: Kind, floats: &[f32], random: &mut Random, numbers: &mut Vec
     match kind {
         Kind::Side => numbers.push(side(random)),
         Kind::Index => numbers.push(wholes::any(6, random)),
+        Kind::Lines => numbers.push(room_for(floats.len() as u64 / 4 * 3, random)),
         Kind::Stroke => numbers.extend([side(random), side(random), room(random)]),
         Kind::Tiles => {
             let size = tile_size(floats, random);
@@ -76,6 +93,17 @@ fn add_wholes(kind: Kind, floats: &[f32], random: &mut Random, numbers: &mut Vec
 fn room(random: &mut Random) -> u64 {
     let most = random.pick(&[4, 20, 400, 4_000]);
     random.below(most)
+}
+
+/// The room for so many entries: exactly enough, one or a line's too few, or more.
+fn room_for(entries: u64, random: &mut Random) -> u64 {
+    match random.below(8) {
+        0 => entries.saturating_sub(1),
+        1 => entries.saturating_sub(3),
+        2 | 3 => entries + random.below(5),
+        4 => entries + wholes::any(64, random).min(20_000),
+        _ => entries,
+    }
 }
 
 /// The size of a tile, such that the box has no more than some hundred columns and rows:

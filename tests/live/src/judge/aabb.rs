@@ -1,7 +1,8 @@
 //! aabb.rs, at two dimensions.
 
-use super::{Row, row};
-use crate::inputs::Kind::{Box, Direction, Point};
+use super::{Row, limits, row};
+use crate::ask::Args;
+use crate::inputs::Kind::{Box, Direction, Lines, Point};
 use del_geo_core::aabb;
 
 pub const ROWS: &[Row] = &[
@@ -9,6 +10,7 @@ pub const ROWS: &[Row] = &[
         let hit = aabb::intersections_against_line::<f32, 2, 4>(&a.fs(0), &a.fs(4), &a.fs(6));
         hit.map(<[f32; 2]>::from).into()
     }),
+    row("aabb.lines", &[Box, Lines], |a| lines(a).into()),
     row("aabb.ray", &[Box, Point, Direction], |a| {
         let hit = aabb::intersections_against_ray::<f32, 2, 4>(&a.fs(0), &a.fs(4), &a.fs(6));
         hit.map(<[f32; 2]>::from).into()
@@ -18,3 +20,18 @@ pub const ROWS: &[Row] = &[
     }),
     row("aabb.center", &[Box], |a| aabb::center::<f32, 2, 4>(&a.fs(0)).into()),
 ];
+
+/// The Rust's line routine for each line in turn: document 02's first request.
+fn lines(a: &Args) -> Result<Vec<f32>, u32> {
+    let (lines, rest) = a.floats[4..].as_chunks();
+    limits::lines(rest.len())?;
+    let result = |&[x, y, dx, dy]: &[f32; 4]| {
+        match aabb::intersections_against_line::<f32, 2, 4>(&a.fs(0), &[x, y], &[dx, dy]) {
+            Some((tmin, tmax)) => [1.0, tmin, tmax],
+            None => [0.0; 3],
+        }
+    };
+    let results: Vec<f32> = lines.iter().flat_map(result).collect();
+    limits::room(results.len(), a.u(0))?;
+    Ok(results)
+}

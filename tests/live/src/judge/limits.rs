@@ -1,4 +1,4 @@
-//! Document 01's table of refusals: the numbers, and the checks at its limits, in its order.
+//! The refusals of documents 01 and 02: the numbers, and the checks at the limits, in their order.
 //!
 //! The Rust makes none of these checks. Without them it hangs, or it answers where a refusal is due.
 //! Where the table follows the Rust's panics (5 to 9), a row of the judge says which number a panic
@@ -13,6 +13,7 @@ pub const RADIUS: u32 = 6;
 pub const NAN_LENGTH: u32 = 7;
 pub const NO_IMAGE: u32 = 8;
 pub const INDEX: u32 = 9;
+pub const LINES: u32 = 14;
 
 /// The largest side of an image or of a sheet.
 const SIDE: u64 = 16_384;
@@ -33,6 +34,11 @@ pub fn tiles(corners: &[f32; 4], size: u64, width: u64, height: u64) -> Result<(
 /// `rasterize`: 4.
 pub fn rasterize(width: u64, height: u64) -> Result<(), u32> {
     refuse(width > SIDE || height > SIDE, SIZE)
+}
+
+/// `intersections_against_lines`, by the floats after the last whole line: 14; `room` is the 1.
+pub fn lines(rest: usize) -> Result<(), u32> {
+    refuse(rest != 0, LINES)
 }
 
 /// A lent list: 1.

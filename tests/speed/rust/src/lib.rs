@@ -20,6 +20,31 @@ pub extern "C" fn intersections_against_line(
     }
 }
 
+/// A loop over the Rust's routine, which is inlined here: it has none for a whole face.
+///
+/// # Safety
+/// The lists start where they are said to, with the lengths given.
+#[inline(never)]
+pub unsafe extern "C" fn intersections_against_lines(
+    b: Aabb2,
+    lines: *const f32,
+    lines_length: usize,
+    out: *mut f32,
+    out_length: usize,
+) -> CountAnswer {
+    let b = b.into();
+    let lines = unsafe { std::slice::from_raw_parts(lines, lines_length) };
+    let out = unsafe { std::slice::from_raw_parts_mut(out, out_length) };
+    let ((lines, _), (places, _)) = (lines.as_chunks::<4>(), out.as_chunks_mut::<3>());
+    for (&[x, y, dx, dy], place) in lines.iter().zip(places) {
+        *place = match aabb::intersections_against_line::<f32, 2, 4>(&b, &[x, y], &[dx, dy]) {
+            Some((tmin, tmax)) => [1.0, tmin, tmax],
+            None => [0.0; 3],
+        };
+    }
+    CountAnswer { status: ANSWERED, count: 3 * lines.len() }
+}
+
 /// # Safety
 /// The list starts at `list` and has room for every entry.
 #[inline(never)]

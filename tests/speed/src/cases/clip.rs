@@ -6,19 +6,25 @@ use crate::random::{Random, point};
 use bagnoszyk::aabb;
 use bagnoszyk::shapes::{Aabb2, Vec2};
 
-const FACE: Aabb2 = Aabb2 { min_x: 0.0, min_y: 0.0, max_x: 120.0, max_y: 80.0 };
-const LINES: usize = 3000;
+pub const FACE: Aabb2 = Aabb2 { min_x: 0.0, min_y: 0.0, max_x: 120.0, max_y: 80.0 };
 
-type Line = (Vec2, Vec2);
+/// Origin and direction.
+pub type Line = (Vec2, Vec2);
 
 pub fn cases() -> Vec<Case> {
-    let hatch = (0..LINES).map(slanting).collect();
-    let mut random = Random::new(1, "clip");
-    let mixed = (0..LINES).map(|_| any(&mut random)).collect();
     vec![
-        clip("clip: 3,000 hatch lines, rising and falling", hatch).goal(0.9),
-        clip("clip: 3,000 lines of all kinds", mixed).goal(0.9),
+        clip("clip: 3,000 hatch lines, rising and falling", hatch(3000)).goal(0.9),
+        clip("clip: 3,000 lines of all kinds", of_all_kinds(3000)).goal(0.9),
     ]
+}
+
+pub fn hatch(lines: usize) -> Vec<Line> {
+    (0..lines).map(|k| slanting(k, lines)).collect()
+}
+
+pub fn of_all_kinds(lines: usize) -> Vec<Line> {
+    let mut random = Random::new(1, "clip");
+    (0..lines).map(|_| any(&mut random)).collect()
 }
 
 fn clip(name: &str, lines: Vec<Line>) -> Case {
@@ -32,11 +38,12 @@ fn clip(name: &str, lines: Vec<Line>) -> Case {
     )
 }
 
-/// Line k at 45 degrees, each rising one followed by its falling twin: evenly spaced over the face, with one pair past it at either end.
-fn slanting(k: usize) -> Line {
+/// Line k of so many at 45 degrees, each rising one followed by its falling twin: evenly spaced over the face, with one pair past it at
+/// either end.
+fn slanting(k: usize, lines: usize) -> Line {
     let (width, height) = (FACE.max_x, FACE.max_y);
     let pair = (k / 2) as f32 - 1.0;
-    let x = pair * (width + height) / (LINES / 2 - 3) as f32 - height;
+    let x = pair * (width + height) / (lines / 2 - 3) as f32 - height;
     let rising = (Vec2 { x, y: 0.0 }, Vec2 { x: 1.0, y: 1.0 });
     let falling = (Vec2 { x: width - x, y: 0.0 }, Vec2 { x: -1.0, y: 1.0 });
     if k.is_multiple_of(2) { rising } else { falling }

@@ -1,0 +1,3 @@
+pub mod Branchless
+pub mod Results
+pub mod Answer
