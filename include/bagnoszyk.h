@@ -43,6 +43,8 @@ extern "C" {
 /* ---- limits */
 
 #define BGZ_IMAGE_SIDE_MAX 16384         /* The longest side of an image in pixels, and of a sheet in tiles. */
+#define BGZ_LINE_FLOATS 4                /* The floats of a line in a list of lines. */
+#define BGZ_LINE_RESULT_FLOATS 3         /* The floats that a line gives in a list of results. */
 #define BGZ_STROKE_COORDINATE_MAX 65536  /* The largest coordinate of a stroke's ends, in size. */
 #define BGZ_STROKE_ENTRIES_MAX 16385     /* Room for the entries of any stroke. */
 #define BGZ_TILE_COORDINATE_MAX 1048576  /* The largest coordinate of a box whose tiles are listed, in size. */
@@ -69,6 +71,7 @@ enum bgz_status {
     BGZ_REFUSED_VERSION = 11,    /* a hatch list has an unknown version */
     BGZ_REFUSED_COUNT = 12,      /* a hatch list has too many records */
     BGZ_REFUSED_LENGTH = 13,     /* the bytes of a hatch list are too few or too many */
+    BGZ_REFUSED_LINES = 14,      /* a list of lines is not a multiple of four floats */
     BGZ_NONE = 255               /* no refusal, and none of what was asked for */
 };
 
@@ -103,6 +106,8 @@ static inline const char *bgz_refusal_text(uint32_t status) {
         return "a hatch list has too many records";
     case BGZ_REFUSED_LENGTH:
         return "the bytes of a hatch list are too few or too many";
+    case BGZ_REFUSED_LINES:
+        return "a list of lines is not a multiple of four floats";
     case BGZ_NONE:
         return "no refusal, and none of what was asked for";
     default:
@@ -444,6 +449,18 @@ bgz_interval_answer bgz_aabb_intersections_against_line(bgz_aabb2 b, bgz_vec2 or
  * Example: (0, 0, 4, 2), (2, 1), (1, 0) gives (-2, 2).
  */
 bgz_interval_answer bgz_aabb_intersections_against_ray(bgz_aabb2 b, bgz_vec2 origin, bgz_vec2 direction);
+
+/*
+ * The lines of a whole face against the box b in one call, each answered as bgz_aabb_intersections_against_line does. A
+ * line is four floats of lines: x and y of its origin, x and y of its direction. A result is three floats: 1, tmin and
+ * tmax for a hit, and three zeros for a miss. There may be any number of lines, none too.
+ * Writes the results of the lines in turn to the start of out and answers how many entries they are, three a line.
+ * Refused: BGZ_REFUSED_LINES if the length of lines is not a multiple of 4; BGZ_REFUSED_ROOM if out is shorter than the
+ * results.
+ * Example: (0, 0, 4, 2), [6, -1, -1, 1, 6, -1, 1, 1], [9; 8] gives 6 and leaves [1, 2, 3, 0, 0, 0, 9, 9].
+ */
+bgz_count_answer bgz_aabb_intersections_against_lines(bgz_aabb2 b, const float *lines, size_t lines_length, float *out,
+                                                      size_t out_length);
 
 /*
  * Whether p is in b, edges included. A NaN is outside.

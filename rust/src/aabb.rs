@@ -3,6 +3,7 @@
 //! Written by tests/generate from the exported functions bgz_aabb_..; not to be edited.
 
 use crate::answers::Interval;
+use crate::refusal::Refusal;
 use crate::shapes::{Aabb2, Vec2};
 
 unsafe extern "C" {
@@ -52,6 +53,15 @@ mod raw {
             origin: Vec2,
             direction: Vec2,
         ) -> IntervalAnswer;
+
+        #[link_name = "bgz_aabb_intersections_against_lines"]
+        pub fn intersections_against_lines(
+            b: Aabb2,
+            lines: *const f32,
+            lines_length: usize,
+            out: *mut f32,
+            out_length: usize,
+        ) -> CountAnswer;
     }
 }
 
@@ -93,4 +103,47 @@ pub fn intersections_against_line(b: Aabb2, origin: Vec2, direction: Vec2) -> Op
 #[inline]
 pub fn intersections_against_ray(b: Aabb2, origin: Vec2, direction: Vec2) -> Option<Interval> {
     raw::intersections_against_ray(b, origin, direction).option()
+}
+
+/// The lines of a whole face against the box `b` in one call, each answered as
+/// [`aabb::intersections_against_line`](crate::aabb::intersections_against_line) does. A line is
+/// four floats of `lines`: x and y of its origin, x and y of its direction. A result is three
+/// floats: 1, tmin and tmax for a hit, and three zeros for a miss. There may be any number of
+/// lines, none too.
+///
+/// Writes the results of the lines in turn to the start of `out` and answers how many entries they
+/// are, three a line.
+///
+/// # Errors
+///
+/// [`Refusal::LINES`] if the length of `lines` is not a multiple of 4; [`Refusal::ROOM`] if `out`
+/// is shorter than the results.
+///
+/// # Example
+///
+/// ```
+/// use bagnoszyk::{Aabb2, aabb};
+///
+/// let b = Aabb2::from([0.0, 0.0, 4.0, 2.0]);
+/// let mut out: [f32; 8] = [9.0; 8];
+/// assert_eq!(aabb::intersections_against_lines(b, &[6.0, -1.0, -1.0, 1.0, 6.0, -1.0, 1.0, 1.0], &mut out), Ok(6));
+/// assert_eq!(out, [1.0, 2.0, 3.0, 0.0, 0.0, 0.0, 9.0, 9.0]);
+/// ```
+#[inline]
+pub fn intersections_against_lines(
+    b: Aabb2,
+    lines: &[f32],
+    out: &mut [f32],
+) -> Result<usize, Refusal> {
+    let a = unsafe {
+        // SAFETY: each list is lent for the call alone, by its start and its length.
+        raw::intersections_against_lines(
+            b,
+            lines.as_ptr(),
+            lines.len(),
+            out.as_mut_ptr(),
+            out.len(),
+        )
+    };
+    a.result()
 }

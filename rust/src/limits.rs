@@ -5,6 +5,12 @@
 /// The longest side of an image in pixels, and of a sheet in tiles.
 pub const IMAGE_SIDE_MAX: usize = 16_384;
 
+/// The floats of a line in a list of lines.
+pub const LINE_FLOATS: usize = 4;
+
+/// The floats that a line gives in a list of results.
+pub const LINE_RESULT_FLOATS: usize = 3;
+
 /// The largest coordinate of a stroke's ends, in size.
 pub const STROKE_COORDINATE_MAX: f32 = 65_536.0;
 

@@ -49,6 +49,9 @@ impl Refusal {
     /// The bytes of a hatch list are too few or too many.
     pub const LENGTH: Refusal = Refusal(13);
 
+    /// A list of lines is not a multiple of four floats.
+    pub const LINES: Refusal = Refusal(14);
+
     /// The number of the refusal.
     #[inline]
     pub const fn number(self) -> u32 {
@@ -78,6 +81,7 @@ impl Refusal {
             Refusal::VERSION => ("VERSION", "a hatch list has an unknown version"),
             Refusal::COUNT => ("COUNT", "a hatch list has too many records"),
             Refusal::LENGTH => ("LENGTH", "the bytes of a hatch list are too few or too many"),
+            Refusal::LINES => ("LINES", "a list of lines is not a multiple of four floats"),
             _ => ("UNKNOWN", "not a refusal of this library"),
         }
     }

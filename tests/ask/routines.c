@@ -231,6 +231,15 @@ static void aabb_intersections_against_ray(const struct arguments *in, struct an
     out->values[1].f = r.tmax;
 }
 
+static void aabb_intersections_against_lines(const struct arguments *in, struct answer *out) {
+    const float *f = in->floats;
+    bgz_count_answer r = bgz_aabb_intersections_against_lines(
+        (bgz_aabb2){f[0], f[1], f[2], f[3]}, in->lists[1].start, in->lists[1].length,
+        in->lists[0].start, in->lists[0].length);
+    out->status = r.status;
+    out->values[0].u = r.count;
+}
+
 static void aabb_is_include_point(const struct arguments *in, struct answer *out) {
     const float *f = in->floats;
     bool r = bgz_aabb_is_include_point((bgz_aabb2){f[0], f[1], f[2], f[3]}, (bgz_vec2){f[4], f[5]});
@@ -571,6 +580,8 @@ const struct routine routines[] = {
      "b.min_x b.min_y b.max_x b.max_y origin.x origin.y direction.x direction.y"},
     {"aabb.ray", CALL(aabb_intersections_against_ray), "ffffffff", "", "ff",
      "b.min_x b.min_y b.max_x b.max_y origin.x origin.y direction.x direction.y"},
+    {"aabb.lines", CALL(aabb_intersections_against_lines), "ffffrF", "fF", "l",
+     "b.min_x b.min_y b.max_x b.max_y room lines"},
     {"aabb.include", CALL(aabb_is_include_point), "ffffff", "", "u",
      "b.min_x b.min_y b.max_x b.max_y p.x p.y"},
     {"aabb.center", CALL(aabb_center), "ffff", "", "ff",
@@ -637,4 +648,4 @@ const struct routine routines[] = {
 
 const size_t routine_count = sizeof routines / sizeof routines[0];
 
-const uint32_t last_refusal = 13;
+const uint32_t last_refusal = 14;
