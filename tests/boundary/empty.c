@@ -19,7 +19,11 @@ int main(void) {
     const bgz_vec2 low = {0.5f, 0.5f}, high = {2.5f, 0.5f};
     const bgz_aabb2 box = {1, 1, 2, 2};
     const unsigned char none[] = {'H', 'S', 'L', 1, 0, 0, 0};
+    const float line[BGZ_LINE_FLOATS] = {0, 0, 1, 1};
 
+    expect("no lines", bgz_aabb_intersections_against_lines(box, NULL, 0, NULL, 0).status, BGZ_ANSWERED);
+    expect("a line", bgz_aabb_intersections_against_lines(box, line, BGZ_LINE_FLOATS, NULL, 0).status, BGZ_REFUSED_ROOM);
+    expect("part of a line", bgz_aabb_intersections_against_lines(box, line, 3, NULL, 0).status, BGZ_REFUSED_LINES);
     expect("count", (uint32_t)bgz_aabb2_count(NULL, 0), 0);
     expect("from_aabbs", bgz_aabb2_from_aabbs(NULL, 0, 0).status, BGZ_REFUSED_INDEX);
     expect("from_slice", bgz_aabb2_from_slice(NULL, 0).status, BGZ_REFUSED_INDEX);

@@ -8,7 +8,10 @@ use crate::options::Options;
 use crate::pairs::pairs;
 
 pub fn run(options: &Options) -> Result<(), String> {
-    println!("{} figures with known results hold for the library and for the Rust", figures::check()?);
+    println!(
+        "{} figures with known results hold for the library and for the Rust",
+        figures::check()?
+    );
     let count = options.count.unwrap_or(1_000_000);
     let pairs = pairs(&options.only)?;
     for pair in &pairs {

@@ -18,15 +18,15 @@ pub fn make(kind: Kind, source: Source, random: &mut Random, args: &mut Args) {
     add_wholes(kind, floats, random, &mut args.wholes);
 }
 
-/// The floats of a list. Most lists of lines have whole lines, and some have more than are worked out at a time.
+/// How many floats a list has. Most lists of lines have whole lines, and some more of them than are worked out at a time.
 fn list_length(kind: Kind, random: &mut Random) -> usize {
+    if kind != Kind::Lines {
+        return random.below(32) as usize;
+    }
     let most = random.pick(&[3, 8, 40]);
-    let length = match kind {
-        Kind::Lines if random.one_in(8) => random.below(4 * most),
-        Kind::Lines => 4 * random.below(most),
-        _ => random.below(32),
-    };
-    length as usize
+    let lines = random.below(most);
+    let more = if random.one_in(8) { random.below(4) } else { 0 };
+    (4 * lines + more) as usize
 }
 
 /// Makes most arguments what a caller would pass: ends in order, edges at right angles.

@@ -21,17 +21,18 @@ pub const ROWS: &[Row] = &[
     row("aabb.center", &[Box], |a| aabb::center::<f32, 2, 4>(&a.fs(0)).into()),
 ];
 
-/// The Rust's line routine for each line in turn: document 02's first request.
+/// The Rust has no routine for a whole face: its line routine for each line in turn.
 fn lines(a: &Args) -> Result<Vec<f32>, u32> {
     let (lines, rest) = a.floats[4..].as_chunks();
     limits::lines(rest.len())?;
-    let result = |&[x, y, dx, dy]: &[f32; 4]| {
-        match aabb::intersections_against_line::<f32, 2, 4>(&a.fs(0), &[x, y], &[dx, dy]) {
-            Some((tmin, tmax)) => [1.0, tmin, tmax],
-            None => [0.0; 3],
-        }
-    };
-    let results: Vec<f32> = lines.iter().flat_map(result).collect();
+    let results: Vec<f32> = lines.iter().flat_map(|line| result(&a.fs(0), line)).collect();
     limits::room(results.len(), a.u(0))?;
     Ok(results)
+}
+
+fn result(b: &[f32; 4], &[x, y, dx, dy]: &[f32; 4]) -> [f32; 3] {
+    match aabb::intersections_against_line::<f32, 2, 4>(b, &[x, y], &[dx, dy]) {
+        Some((tmin, tmax)) => [1.0, tmin, tmax],
+        None => [0.0; 3],
+    }
 }

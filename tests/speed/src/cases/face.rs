@@ -32,7 +32,8 @@ pub fn sized() -> Vec<Sized> {
 }
 
 fn face(name: &str, lines: &[Line], rust: fn(&Face) -> usize) -> Case {
-    let floats = lines.iter().map(|(origin, direction)| [origin.x, origin.y, direction.x, direction.y]);
+    let floats =
+        lines.iter().map(|(origin, direction)| [origin.x, origin.y, direction.x, direction.y]);
     let face = (floats.collect(), RefCell::new(vec![0.0; LINE_RESULT_FLOATS * lines.len()]));
     let results = |call: fn(&Face) -> usize| {
         call(&face);
@@ -44,7 +45,8 @@ fn face(name: &str, lines: &[Line], rust: fn(&Face) -> usize) -> Case {
 }
 
 fn library((lines, results): &Face) -> usize {
-    aabb::intersections_against_lines(FACE, lines.as_flattened(), &mut results.borrow_mut()).unwrap()
+    aabb::intersections_against_lines(FACE, lines.as_flattened(), &mut results.borrow_mut())
+        .unwrap()
 }
 
 fn called((lines, results): &Face) -> usize {
@@ -64,5 +66,6 @@ fn inlined((lines, results): &Face) -> usize {
     let lines = lines.as_flattened();
     let results = &mut results.borrow_mut()[..];
     let (start, room) = (results.as_mut_ptr(), results.len());
-    unsafe { rust_abi::intersections_against_lines(FACE, lines.as_ptr(), lines.len(), start, room) }.count
+    unsafe { rust_abi::intersections_against_lines(FACE, lines.as_ptr(), lines.len(), start, room) }
+        .count
 }
