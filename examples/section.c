@@ -1,5 +1,6 @@
 /*
- * Clips a hatch list, then lists the pixels of two strokes and the tiles of a box.
+ * Clips a hatch list line by line, and one of its faces in one call; then lists the pixels of two strokes and the tiles
+ * of a box.
  *
  *   ./install PREFIX
  *   cc -std=c99 -IPREFIX/include examples/section.c -LPREFIX/lib -lbagnoszyk -o section
@@ -8,9 +9,13 @@
 #include <bagnoszyk.h>
 #include <inttypes.h>
 #include <stdio.h>
+#include <string.h>
 
 /* One byte more than the longest hatch list has, which tells a longer file: it is refused and not cut. */
 enum { BYTES = BGZ_HATCH_BYTES_MAX + 1, FLOATS = BGZ_HATCH_FLOATS_MAX };
+
+/* Room for the lines of any face of a hatch list, and for what they give. */
+enum { LINES = BGZ_LINE_FLOATS * BGZ_HATCH_RECORDS_MAX, RESULTS = BGZ_LINE_RESULT_FLOATS * BGZ_HATCH_RECORDS_MAX };
 
 /* A hatch line, and the box of the face that it fills. */
 struct line {
@@ -79,6 +84,22 @@ static void print_section(const float *floats, size_t count) {
         print_ends("falling", line_of(first_falling));
 }
 
+/* All lines of the first record's face, in one call. There is a record. */
+static void print_face(const float *floats, size_t count) {
+    static float lines[LINES], results[RESULTS];
+    size_t length = 0, hits = 0;
+    for (const float *record = floats; record < floats + 8 * count; record += 8) {
+        if (memcmp(record, floats, 4 * sizeof *record) == 0) {
+            memcpy(lines + length, record + 4, BGZ_LINE_FLOATS * sizeof *record);
+            length += BGZ_LINE_FLOATS;
+        }
+    }
+    bgz_count_answer answer = bgz_aabb_intersections_against_lines(line_of(floats).face, lines, length, results, RESULTS);
+    for (size_t i = 0; i < answer.count; i += BGZ_LINE_RESULT_FLOATS)
+        hits += results[i] == 1;
+    printf("first face: %zu lines, %zu hit\n", length / BGZ_LINE_FLOATS, hits);
+}
+
 int main(int argc, char **argv) {
     static uint8_t bytes[BYTES];
     static float floats[FLOATS];
@@ -96,6 +117,8 @@ int main(int argc, char **argv) {
         return 1;
     }
     print_section(floats, read.count);
+    if (read.count > 0)
+        print_face(floats, read.count);
 
     /* A stroke and its falling twin, in an image of 8 by 8 pixels. */
     uint32_t list[16];

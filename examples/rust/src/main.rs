@@ -1,4 +1,5 @@
-//! Clips a hatch list, then lists the pixels of two strokes and the tiles of a box.
+//! Clips a hatch list line by line, and one of its faces in one call; then lists the pixels of two strokes and the
+//! tiles of a box.
 //!
 //! ```text
 //! ./install PREFIX
@@ -6,7 +7,7 @@
 //! BAGNOSZYK_STATICLIB=PREFIX/lib cargo run -- ../section.hsl
 //! ```
 
-use bagnoszyk::limits::HATCH_FLOATS_MAX;
+use bagnoszyk::limits::{HATCH_FLOATS_MAX, LINE_RESULT_FLOATS};
 use bagnoszyk::{Aabb2, Interval, Refusal, Vec2, aabb, aabb2, edge2, hatch};
 use std::process::ExitCode;
 use std::{env, fs};
@@ -66,6 +67,19 @@ fn print_section(lines: &[Line]) {
     print_first("falling", &falling);
 }
 
+/// All lines of the first record's face, in one call.
+fn print_face(lines: &[Line]) -> Result<(), Refusal> {
+    let Some(Line { face, .. }) = lines.first() else { return Ok(()) };
+    let of_face = lines.iter().filter(|line| line.face == *face);
+    let floats: Vec<_> =
+        of_face.map(|Line { origin: p, direction: d, .. }| [p.x, p.y, d.x, d.y]).collect();
+    let mut results = vec![[0.0; LINE_RESULT_FLOATS]; floats.len()];
+    aabb::intersections_against_lines(*face, floats.as_flattened(), results.as_flattened_mut())?;
+    let hits = results.iter().filter(|result| result[0] == 1.0).count();
+    println!("first face: {} lines, {hits} hit", floats.len());
+    Ok(())
+}
+
 fn print_list(what: &str, list: &[u32]) {
     let entries: Vec<_> = list.iter().map(u32::to_string).collect();
     println!("{what}: {}", entries.join(" "));
@@ -75,7 +89,9 @@ fn run(bytes: &[u8]) -> Result<(), Refusal> {
     let mut floats = vec![0.0; HATCH_FLOATS_MAX];
     let count = hatch::read_floats(bytes, &mut floats)?.count;
     let records = floats.chunks_exact(8).take(count).filter_map(<[f32]>::first_chunk);
-    print_section(&records.map(Line::new).collect::<Vec<_>>());
+    let lines: Vec<_> = records.map(Line::new).collect();
+    print_section(&lines);
+    print_face(&lines)?;
 
     // A stroke and its falling twin, in an image of 8 by 8 pixels.
     let mut list = [0; 16];
