@@ -10,7 +10,7 @@ use borrow.Author.Tests.{eq-eqb, ne-eqb, lt-ltb, le-ltb}
 use Rattle.types.specs.declared.shape.Aabb2.{Aabb2}
 use Rattle.types.specs.declared.answer.Listed.the-variants.{Count, Refused}
 use Rattle.lists.specs.Lent.{fitted, written, leaves}
-use Rattle.aabb_lines.specs.Results.{resultsOf}
+use Rattle.aabb_lines.specs.Results.{width, resultsOf}
 use Rattle.aabb_lines.specs.Answer.{intersectionsAgainstLinesOf}
 use Rattle.aabb_lines.proofs.Results.{length-results, over}
 
@@ -23,7 +23,7 @@ module _ (b : Aabb2) (lines : List Float) where
 
   module _ (whole : length lines % 4 ≡ 0) where
     abbrev entries : ℕ
-    entries = 3 * (length lines / 4)
+    entries = width * (length lines / 4)
 
     counted : length (resultsOf b lines) ≡ entries
     counted = length-results b (length lines / 4) lines (omega (arith, whole))

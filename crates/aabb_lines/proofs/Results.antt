@@ -4,14 +4,14 @@ use mathlib.Core.List.{List, [], _∷_, _++_, append-assoc, append-nil}
 use Prim.Native.Nat.{ℕ, zero, suc, _+_, _*_, _≤_}
 use native.Mathlib.Omega.{arith}
 use lib.ListN.{length, take, drop, getD, set, length-append, length-drop}
-use lib.Seq.{sets, take-add, drop-cons, length-take-le, take-length}
+use lib.Seq.{take-add, drop-cons, length-take-le}
 use lib.Ieee.{Float, nan}
 use Rattle.types.specs.declared.shape.Aabb2.{Aabb2}
 use Rattle.types.specs.declared.answer.Interval.{Interval}
 use Rattle.types.specs.declared.answer.Interval.the-variants.{Miss, Hit}
 use Rattle.lists.proofs.Fill.{store-all}
 use Rattle.aabb.specs.Clip.{intersectionsAgainstLineOf}
-use Rattle.aabb_lines.specs.Results.{vector, encodedOf, resultsOf}
+use Rattle.aabb_lines.specs.Results.{vector, encodedOf, width, resultsOf}
 
 -- a list of n times four floats, from the front
 by-four : (P : List Float → Type 0) → P [] → ((x y u v : Float) (l : List Float) → P l → P (x ∷ y ∷ u ∷ v ∷ l))
@@ -24,7 +24,7 @@ by-four P none more (suc n) (x ∷ y ∷ []) e = absurd (omega (arith, e))
 by-four P none more (suc n) (x ∷ y ∷ u ∷ []) e = absurd (omega (arith, e))
 by-four P none more (suc n) (x ∷ y ∷ u ∷ v ∷ l) e = more x y u v l (by-four P none more n l (omega (arith, e)))
 
-length-encoded : (i : Interval) → length (encodedOf i) ≡ 3
+length-encoded : (i : Interval) → length (encodedOf i) ≡ width
 unfolding encodedOf
 length-encoded Miss = refl
 length-encoded (Hit tmin tmax) = refl
@@ -33,13 +33,13 @@ module _ (b : Aabb2) where
   abbrev first : Float → Float → Float → Float → List Float
   first x y u v = encodedOf (intersectionsAgainstLineOf b (vector x y) (vector u v))
 
-  -- three entries a line
-  pub length-results : (n : ℕ) (l : List Float) → length l ≡ 4 * n → length (resultsOf b l) ≡ 3 * n
+  -- `width` entries a line
+  pub length-results : (n : ℕ) (l : List Float) → length l ≡ 4 * n → length (resultsOf b l) ≡ width * n
   unfolding resultsOf
-  length-results n l e = omega (arith, e, by-four (λ (l : List Float). 4 * length (resultsOf b l) ≡ 3 * length l) refl more n l e)
+  length-results n l e = omega (arith, e, by-four (λ (l : List Float). 4 * length (resultsOf b l) ≡ width * length l) refl more n l e)
     where
-      more : (x y u v : Float) (l : List Float) → 4 * length (resultsOf b l) ≡ 3 * length l
-          → 4 * length (resultsOf b (x ∷ y ∷ u ∷ v ∷ l)) ≡ 3 * length (x ∷ y ∷ u ∷ v ∷ l)
+      more : (x y u v : Float) (l : List Float) → 4 * length (resultsOf b l) ≡ width * length l
+          → 4 * length (resultsOf b (x ∷ y ∷ u ∷ v ∷ l)) ≡ width * length (x ∷ y ∷ u ∷ v ∷ l)
       more x y u v l h =
           omega (arith, h, length-append (first x y u v) (resultsOf b l), length-encoded (intersectionsAgainstLineOf b (vector x y) (vector u v)))
 
@@ -79,33 +79,33 @@ module _ (b : Aabb2) where
 
   -- the results of the first n lines, and behind them what stood there
   abbrev pub over : List Float → ℕ → List Float → List Float
-  over lines n l = resultsOf b (take (4 * n) lines) ++ drop (3 * n) l
+  over lines n l = resultsOf b (take (4 * n) lines) ++ drop (width * n) l
 
   pub none-yet : (lines l : List Float) → l ≡ over lines 0 l
   unfolding resultsOf
   none-yet lines l = refl
 
-  length-first : (lines : List Float) (n : ℕ) → 4 * n ≤ length lines → length (resultsOf b (take (4 * n) lines)) ≡ 3 * n
+  length-first : (lines : List Float) (n : ℕ) → 4 * n ≤ length lines → length (resultsOf b (take (4 * n) lines)) ≡ width * n
   length-first lines n h = length-results n (take (4 * n) lines) (length-take-le (4 * n) lines h)
 
-  pub length-over : (lines : List Float) (n : ℕ) (l : List Float) → 4 * n ≤ length lines → 3 * n ≤ length l → length (over lines n l) ≡ length l
+  pub length-over : (lines : List Float) (n : ℕ) (l : List Float) → 4 * n ≤ length lines → width * n ≤ length l → length (over lines n l) ≡ length l
   length-over lines n l h k =
-      omega (arith, k, length-append (resultsOf b (take (4 * n) lines)) (drop (3 * n) l), length-first lines n h, length-drop (3 * n) l)
+      omega (arith, k, length-append (resultsOf b (take (4 * n) lines)) (drop (width * n) l), length-first lines n h, length-drop (width * n) l)
 
   -- a line's entries stored behind them
-  pub next : (lines : List Float) (n : ℕ) (l : List Float) (hit tmin tmax : Float) → 4 * n + 4 ≤ length lines → 3 * n + 3 ≤ length l
+  pub next : (lines : List Float) (n : ℕ) (l : List Float) (hit tmin tmax : Float) → 4 * n + 4 ≤ length lines → width * n + width ≤ length l
       → (hit ∷ tmin ∷ tmax ∷ []) ≡ resultsOf b (take 4 (drop (4 * n) lines))
-      → set (set (set (over lines n l) (3 * n) hit) (3 * n + 1) tmin) (3 * n + 2) tmax ≡ over lines (n + 1) l
+      → set (set (set (over lines n l) (width * n) hit) (width * n + 1) tmin) (width * n + 2) tmax ≡ over lines (n + 1) l
   next lines n l hit tmin tmax h k e =
       let done = resultsOf b (take (4 * n) lines) in
-      let one : 3 * n + 1 ≡ suc (3 * n) = omega arith in
-      let two : 3 * n + 2 ≡ suc (suc (3 * n)) = omega arith in
-      let place : 3 * n + 3 ≡ 3 * (n + 1) = omega arith in
+      let one : width * n + 1 ≡ suc (width * n) = omega arith in
+      let two : width * n + 2 ≡ suc (suc (width * n)) = omega arith in
+      let place : width * n + width ≡ width * (n + 1) = omega arith in
       let longer : 4 * n + 4 ≡ 4 * (n + 1) = omega arith in
       let whole = length-take-le (4 * n) lines (omega (arith, h)) in
-      rw (one, two) (store-all nan (hit ∷ tmin ∷ tmax ∷ []) done l (3 * n) (length-first lines n (omega (arith, h))) k)
-      ∙ ap (λ (r : List Float). (done ++ r) ++ drop (3 * n + 3) l) e
-      ∙ ap (λ (r : List Float). r ++ drop (3 * n + 3) l) (sym (results-append n (take (4 * n) lines) (take 4 (drop (4 * n) lines)) whole))
-      ∙ ap (λ (r : List Float). resultsOf b r ++ drop (3 * n + 3) l) (sym (take-add (4 * n) 4 lines))
-      ∙ ap (λ (k : ℕ). resultsOf b (take k lines) ++ drop (3 * n + 3) l) longer
+      rw (one, two) (store-all nan (hit ∷ tmin ∷ tmax ∷ []) done l (width * n) (length-first lines n (omega (arith, h))) k)
+      ∙ ap (λ (r : List Float). (done ++ r) ++ drop (width * n + width) l) e
+      ∙ ap (λ (r : List Float). r ++ drop (width * n + width) l) (sym (results-append n (take (4 * n) lines) (take 4 (drop (4 * n) lines)) whole))
+      ∙ ap (λ (r : List Float). resultsOf b r ++ drop (width * n + width) l) (sym (take-add (4 * n) 4 lines))
+      ∙ ap (λ (k : ℕ). resultsOf b (take k lines) ++ drop (width * n + width) l) longer
       ∙ ap (λ (k : ℕ). resultsOf b (take (4 * (n + 1)) lines) ++ drop k l) place

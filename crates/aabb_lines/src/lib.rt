@@ -10,7 +10,7 @@ ghost use mathlib.Core.List.{[], _∷_, _++_};
 ghost use Prim.Native.Nat.{_+_, _*_, _≤_};
 ghost use lib.ListN.{length, take, drop};
 ghost use Rattle.lists.specs.Lent.{leaves};
-ghost use Rattle.aabb_lines.specs.Results.{resultsOf};
+ghost use Rattle.aabb_lines.specs.Results.{width, resultsOf};
 ghost use Rattle.aabb_lines.specs.Answer.{intersectionsAgainstLinesOf};
 
 // The floats of a line, and those of its result.
@@ -40,8 +40,8 @@ fn result_at(b: Aabb2, lines: &[f32], at: usize) -> Entries
 
 // The results of the first n lines. One counter, and one store to each place: that is what LLVM makes vectors of.
 fn write_results(b: Aabb2, lines: &[f32], n: usize, out: &mut [f32])
-    requires { ⌜ (4 * n ≤ length (now lines)) × (3 * n ≤ length (now out)) ⌝ }
-    ensures { λ _. ⌜ now (out .exit) ≡ resultsOf b (take (4 * n) (now (lines .entry))) ++ drop (3 * n) (now (out .entry)) ⌝ }
+    requires { ⌜ (4 * n ≤ length (now lines)) × (width * n ≤ length (now out)) ⌝ }
+    ensures { λ _. ⌜ now (out .exit) ≡ resultsOf b (take (4 * n) (now (lines .entry))) ++ drop (width * n) (now (out .entry)) ⌝ }
 {
     let mut i = 0usize;
     while i < n {

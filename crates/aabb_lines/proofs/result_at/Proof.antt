@@ -1,6 +1,4 @@
 -- `aabb_lines::result_at` meets its contract: the fold over the two slabs, call by call, of the four floats at a place. Assumes nothing.
-use native.Mathlib.Omega.{arith}
-use mathlib.Core.Path.{_∙_}
 use borrow.Author.Needs.{needs}
 use denote.Ref.{now}
 use Rattle.aabb.specs.Clip.{narrowAll, clipOver, intersectionsAgainstLineOf}

@@ -4,6 +4,7 @@ use Prim.Native.Nat.{ℕ, _+_, _*_, _-_, _≤_}
 use native.Mathlib.Omega.{arith}
 use denote.Ref.{now}
 use lib.ListN.{length, set, length-set}
+use Rattle.aabb_lines.specs.Results.{width}
 use Rattle.aabb_lines.proofs.Results.{over, none-yet, length-over, next}
 use Rattle.aabb_lines.proofs.write_results.Statement.{statement}
 use Rattle.aabb_lines.proofs.write_results.Tie as tie
@@ -25,20 +26,20 @@ as-long c =
 line : (c : tie.In-loop Inv-loop μ-loop) → 4 * c .before .loop .i + 4 ≤ length (now (c .before .before .before .before .args .lines))
 line c = omega (arith, c .before .before .before .before .pre .0)
 
-room : (c : tie.In-loop Inv-loop μ-loop) → 3 * c .before .loop .i + 3 ≤ length (c .before .loop .out)
+room : (c : tie.In-loop Inv-loop μ-loop) → width * c .before .loop .i + width ≤ length (c .before .loop .out)
 room c = omega (arith, as-long (c .before), c .before .before .before .before .pre .1)
 
 slice-write-out-2 : tie.Need-slice-write-out-2 Inv-loop μ-loop
 slice-write-out-2 c =
     let t = c .before .before .loop in
-    omega (arith, room (c .before), length-set (t .out) (3 * t .i) (c .result-at .result .hit))
+    omega (arith, room (c .before), length-set (t .out) (width * t .i) (c .result-at .result .hit))
 
 slice-write-out-3 : tie.Need-slice-write-out-3 Inv-loop μ-loop
 slice-write-out-3 c =
     let t = c .before .before .loop in
     let r = c .result-at .result in
-    let first = set (t .out) (3 * t .i) (r .hit) in
-    omega (arith, room (c .before), length-set (t .out) (3 * t .i) (r .hit), length-set first (3 * t .i + 1) (r .tmin))
+    let first = set (t .out) (width * t .i) (r .hit) in
+    omega (arith, room (c .before), length-set (t .out) (width * t .i) (r .hit), length-set first (width * t .i + 1) (r .tmin))
 
 loop-again : tie.Need-loop-again Inv-loop μ-loop
 loop-again c =

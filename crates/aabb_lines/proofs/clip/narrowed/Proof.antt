@@ -1,7 +1,7 @@
 -- `aabb_lines::clip::narrowed` meets its contract: what its calls ensure, and proofs/Branchless.antt. Assumes nothing.
 use borrow.Author.Needs.{needs}
 use Rattle.float.proofs.Laws.{mended-min, mended-max}
-use Rattle.aabb_lines.proofs.Branchless.{lowQuotient, highQuotient, narrowed-flat}
+use Rattle.aabb_lines.proofs.Branchless.{lowQuotient, highQuotient, narrowed-is}
 use Rattle.aabb_lines.proofs.clip.narrowed.Statement.{statement}
 use Rattle.aabb_lines.proofs.clip.narrowed.Tie as tie
 
@@ -21,7 +21,7 @@ returns c =
       mended-min (lowQuotient (a .s)) (highQuotient (a .s)),
       mended-max (lowQuotient (a .s)) (highQuotient (a .s)),
     )
-    (narrowed-flat (a .s) (a .e .tmin) (a .e .tmax) (a .e .missed))
+    (narrowed-is (a .s) (a .e .tmin) (a .e .tmax) (a .e .missed))
 
 pub narrowed-spec : {M : Type 1} → statement M
 narrowed-spec = tie.close (tie.spec
