@@ -95,6 +95,10 @@ static void print_face(const float *floats, size_t count) {
         }
     }
     bgz_count_answer answer = bgz_aabb_intersections_against_lines(line_of(floats).face, lines, length, results, RESULTS);
+    if (answer.status != BGZ_ANSWERED) {
+        printf("first face: %s\n", bgz_refusal_text(answer.status));
+        return;
+    }
     for (size_t i = 0; i < answer.count; i += BGZ_LINE_RESULT_FLOATS)
         hits += results[i] == 1;
     printf("first face: %zu lines, %zu hit\n", length / BGZ_LINE_FLOATS, hits);

@@ -1,4 +1,4 @@
-//! What the routines take at most, and what they write at most.
+//! What the routines take at most, what they write at most, and the floats of a line.
 //!
 //! Written by tests/generate from tests/boundary/limits.py; not to be edited.
 

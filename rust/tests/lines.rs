@@ -10,7 +10,8 @@ const MARKED: f32 = -77.0;
 
 type Line = [f32; LINE_FLOATS];
 
-/// Rising lines at 45 degrees over the face, each followed by its falling twin; an upright one and a level one; an edge, a corner, a miss.
+/// Rising lines at 45 degrees over the face, each followed by its falling twin; an upright one and a level one; along an edge, through a
+/// corner, a miss; and one of a NaN, an infinity and a subnormal.
 fn lines() -> Vec<Line> {
     let hatch =
         (-9..13).flat_map(|x| [[x as f32, 0.0, 1.0, 1.0], [12.0 - x as f32, 0.0, -1.0, 1.0]]);

@@ -7,7 +7,7 @@
 /* Entries behind a lent list that are looked at with it. */
 enum { GUARD = 16 };
 
-/* No routine lists more, but for one entry a float of a list that it reads: every tile of the largest sheet. */
+/* No routine lists more: every tile of the largest sheet. */
 static const uint64_t MOST_ENTRIES = UINT64_C(16384) * 16384;
 
 const size_t ask_sizes[3] = {sizeof(struct routine), sizeof(struct reply), sizeof(struct request)};
@@ -66,6 +66,12 @@ static size_t place_of_room(const char *takes) {
     return place;
 }
 
+/* The length of the list to lend. A room for more than the routine can write is cut: it writes at most an entry a float that it reads. */
+static size_t lent_length(const struct routine *routine, size_t float_count, uint64_t room) {
+    uint64_t most = strchr(routine->lists, 'F') != NULL ? float_count : MOST_ENTRIES;
+    return room < most ? room : most;
+}
+
 struct reply ask(const struct routine *routine, const float *floats, size_t float_count, const uint64_t *wholes) {
     struct arguments in = {.floats = floats, .wholes = wholes};
     struct reply reply = {.list = NULL};
@@ -74,8 +80,7 @@ struct reply ask(const struct routine *routine, const float *floats, size_t floa
             size_t single = single_floats(routine->takes);
             in.lists[i] = (struct list){(void *)(floats + single), float_count - single};
         } else {
-            uint64_t room = wholes[place_of_room(routine->takes)], most = MOST_ENTRIES + float_count;
-            in.lists[i].length = room < most ? room : most;
+            in.lists[i].length = lent_length(routine, float_count, wholes[place_of_room(routine->takes)]);
             in.lists[i].start = reply.list = lend(in.lists[i].length);
         }
     }

@@ -26,7 +26,8 @@ static const char HELP[] =
     "\n"
     "Exit status: 0; 1 if a request given as arguments is bad, or reading or writing fails.\n"
     "\n"
-    "  ./ask --decimal aabb.line 0 0 4 2 6 -1 -1 1    answers: 2 3\n";
+    "  ./ask --decimal aabb.line 0 0 4 2 6 -1 -1 1                answers: 2 3\n"
+    "  ./ask --decimal aabb.lines 0 0 4 2 6 6 -1 -1 1 6 -1 1 1    answers: 6 1 2 3 0 0 0, with room for six\n";
 
 /* Ends the program after a call that failed. */
 static void fail(const char *what) {

@@ -16,9 +16,11 @@ def type_name(t):
 
 
 def text_of(text, model):
-    """A comment's text: no backticks, and C's names for functions and refusals."""
+    """A comment's text: no backticks, and C's names for functions, refusals and limits."""
     for refusal in model.refusals:
         text = text.replace(f"`{refusal.name}`", f"BGZ_REFUSED_{refusal.name}")
+    for limit, _, _ in LIMITS:
+        text = text.replace(f"`{limit}`", f"BGZ_{limit}")
     return re.sub(r"`(\w+)::(\w+)`", r"bgz_\1_\2", text).replace("`", "")
 
 

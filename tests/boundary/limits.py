@@ -1,4 +1,7 @@
-"""What the routines take at most, and what they write at most: name, value, comment. rust/tests/limits.rs tries each on both sides."""
+"""What the routines take at most, what they write at most, and the floats of a line: name, value, comment.
+
+rust/tests/limits.rs tries each limit on both sides, rust/tests/lines.rs the floats of a line.
+"""
 
 SIDE = 16384
 RECORDS = 2000

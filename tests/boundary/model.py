@@ -3,8 +3,8 @@
 `read()` gives them in the order in which the header declares them: modules as crates.txt lists their crates, functions as written. A form
 that this module does not read is an error, so nothing that is exported can be left out.
 
-A comment is text, in which code stands in backticks, a refusal by its name, as `ROOM`, and a function as `module::name`. Three kinds of
-paragraphs begin with a word of their own and stand last: `Refused: ` the conditions in the order in which they are tested, `Example: `
+A comment is text, in which code stands in backticks, a refusal or a limit by its name, as `ROOM`, and a function as `module::name`. Three
+kinds of paragraphs begin with a word of their own and stand last: `Refused: ` the conditions in the order in which they are tested, `Example: `
 arguments and what they give, `Writes` what is left in lent lists.
 """
 

@@ -3,6 +3,8 @@
 import re
 import textwrap
 
+from limits import LIMITS
+
 WIDTH = 100
 
 
@@ -11,9 +13,11 @@ def origin(path):
 
 
 def text_of(text, model):
-    """A comment's text, with links to functions and refusals."""
+    """A comment's text, with links to functions, refusals and limits."""
     for refusal in model.refusals:
         text = text.replace(f"`{refusal.name}`", f"[`Refusal::{refusal.name}`]")
+    for limit, _, _ in LIMITS:
+        text = text.replace(f"`{limit}`", f"[`{limit}`](crate::limits::{limit})")
     return re.sub(r"`([a-z]\w*::\w+)`", r"[`\1`](crate::\1)", text)
 
 

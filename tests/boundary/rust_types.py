@@ -201,7 +201,7 @@ def refusal_file(model):
 
 
 def limits_file(model):
-    yield "//! What the routines take at most, and what they write at most."
+    yield "//! What the routines take at most, what they write at most, and the floats of a line."
     yield "//!"
     yield from origin("tests/boundary/limits.py")
     for name, value, text in LIMITS:

@@ -1,4 +1,5 @@
--- The clip with no branch is the clip, for every float: a direction of zero becomes a NaN, which drops out. Assumes nothing.
+-- The clip that works out every value and then chooses is the clip, for every float: a direction of zero becomes a NaN, which drops out.
+-- Assumes nothing.
 use mathlib.Core.Path.{_≡_, refl, sym, ap, _∙_}
 use mathlib.Core.Bool.{Bool, true, false, not, cond, _&&_, _||_}
 use lib.Ieee.{Float, nan, inf, fin, div, eq, ne, lt, le, ofBits}

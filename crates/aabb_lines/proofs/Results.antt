@@ -3,8 +3,8 @@ use mathlib.Core.Path.{_≡_, refl, sym, ap, _∙_}
 use mathlib.Core.List.{List, [], _∷_, _++_, append-assoc, append-nil}
 use Prim.Native.Nat.{ℕ, zero, suc, _+_, _*_, _≤_}
 use native.Mathlib.Omega.{arith}
-use lib.ListN.{length, take, drop, getD, set, length-append, length-drop}
-use lib.Seq.{take-add, drop-cons, length-take-le}
+use lib.ListN.{length, take, drop, getD, length-append, length-drop}
+use lib.Seq.{sets, take-add, drop-cons, length-take-le}
 use lib.Ieee.{Float, nan}
 use Rattle.types.specs.declared.shape.Aabb2.{Aabb2}
 use Rattle.types.specs.declared.answer.Interval.{Interval}
@@ -92,20 +92,17 @@ module _ (b : Aabb2) where
   length-over lines n l h k =
       omega (arith, k, length-append (resultsOf b (take (4 * n) lines)) (drop (width * n) l), length-first lines n h, length-drop (width * n) l)
 
-  -- a line's entries stored behind them
-  pub next : (lines : List Float) (n : ℕ) (l : List Float) (hit tmin tmax : Float) → 4 * n + 4 ≤ length lines → width * n + width ≤ length l
-      → (hit ∷ tmin ∷ tmax ∷ []) ≡ resultsOf b (take 4 (drop (4 * n) lines))
-      → set (set (set (over lines n l) (width * n) hit) (width * n + 1) tmin) (width * n + 2) tmax ≡ over lines (n + 1) l
-  next lines n l hit tmin tmax h k e =
+  -- one line's entries stored behind them
+  pub next : (lines : List Float) (n : ℕ) (l es : List Float) → 4 * n + 4 ≤ length lines → width * n + width ≤ length l → length es ≡ width
+      → es ≡ resultsOf b (take 4 (drop (4 * n) lines)) → sets (over lines n l) (width * n) es ≡ over lines (n + 1) l
+  next lines n l es h k w e =
       let done = resultsOf b (take (4 * n) lines) in
-      let one : width * n + 1 ≡ suc (width * n) = omega arith in
-      let two : width * n + 2 ≡ suc (suc (width * n)) = omega arith in
-      let place : width * n + width ≡ width * (n + 1) = omega arith in
-      let longer : 4 * n + 4 ≡ 4 * (n + 1) = omega arith in
       let whole = length-take-le (4 * n) lines (omega (arith, h)) in
-      rw (one, two) (store-all nan (hit ∷ tmin ∷ tmax ∷ []) done l (width * n) (length-first lines n (omega (arith, h))) k)
-      ∙ ap (λ (r : List Float). (done ++ r) ++ drop (width * n + width) l) e
-      ∙ ap (λ (r : List Float). r ++ drop (width * n + width) l) (sym (results-append n (take (4 * n) lines) (take 4 (drop (4 * n) lines)) whole))
-      ∙ ap (λ (r : List Float). resultsOf b r ++ drop (width * n + width) l) (sym (take-add (4 * n) 4 lines))
-      ∙ ap (λ (k : ℕ). resultsOf b (take k lines) ++ drop (width * n + width) l) longer
+      let place : width * n + length es ≡ width * (n + 1) = omega (arith, w) in
+      let longer : 4 * n + 4 ≡ 4 * (n + 1) = omega arith in
+      store-all nan es done l (width * n) (length-first lines n (omega (arith, h))) (omega (arith, w, k))
+      ∙ ap (λ (r : List Float). (done ++ r) ++ drop (width * n + length es) l) e
+      ∙ ap (λ (r : List Float). r ++ drop (width * n + length es) l) (sym (results-append n (take (4 * n) lines) (take 4 (drop (4 * n) lines)) whole))
+      ∙ ap (λ (r : List Float). resultsOf b r ++ drop (width * n + length es) l) (sym (take-add (4 * n) 4 lines))
+      ∙ ap (λ (k : ℕ). resultsOf b (take k lines) ++ drop (width * n + length es) l) longer
       ∙ ap (λ (k : ℕ). resultsOf b (take (4 * (n + 1)) lines) ++ drop k l) place

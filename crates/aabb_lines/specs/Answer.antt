@@ -1,4 +1,4 @@
--- What `intersections_against_lines` answers. Definitions only.
+-- What `intersections_against_lines` answers. Quoted words are those of document 02's request. Definitions only.
 use mathlib.Core.Bool.{cond}
 use mathlib.Core.List.{List}
 use Prim.Native.Nat.{ℕ, _%_}

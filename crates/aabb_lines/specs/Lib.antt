@@ -1,3 +1,3 @@
 pub mod Results
 pub mod Answer
-pub mod Ends
+pub mod Structs

@@ -9,6 +9,7 @@ use Rattle.types.specs.declared.answer.Interval.the-variants.{Miss, Hit}
 use Rattle.float.specs.Rounded.{+0, one}
 use Rattle.aabb.specs.Clip.{intersectionsAgainstLineOf}
 
+-- a point or a direction
 abbrev pub vector : Float → Float → Vec2
 vector x y = record { x = x; y = y }
 

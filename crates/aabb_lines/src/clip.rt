@@ -1,14 +1,13 @@
-// The clip of one line with no branch on its numbers, so that LLVM works out several lines at a time. A line alone is faster with them:
-// crates/aabb keeps them.
+// The clip of one line, in which each `if` only chooses between two values: LLVM makes no jumps of them, and works out several lines at a
+// time. A line alone is faster with the jumps of crates/slab.
 use slab::Slab;
 ghost use mathlib.Core.Path.{_≡_};
 ghost use mathlib.Core.Bool.{cond};
-ghost use mathlib.Core.List.{[], _∷_};
 ghost use lib.Ieee.{nan, eq};
 ghost use Rattle.float.specs.Rounded.{+0};
 ghost use Rattle.slab.specs.Clip.{allFiniteOf, narrowedOf, orderedOf};
-ghost use Rattle.aabb_lines.specs.Ends.{intervalOf};
 ghost use Rattle.aabb_lines.specs.Results.{encodedOf};
+ghost use Rattle.aabb_lines.specs.Structs.{intervalOf, entriesOf};
 
 // An interval, or a miss: then its ends mean nothing.
 pub struct Ends {
@@ -46,7 +45,8 @@ fn divisor(direction: f32) -> f32
     }
 }
 
-// What a slab leaves of an interval. `&` and `|`: both of their sides are worked out.
+// What a slab leaves of an interval. The second quotient stands in for a NaN in the first, so that one comparison orders them. `&` and `|`, not
+// `&&` and `||`, which would jump.
 pub fn narrowed(s: Slab, e: Ends) -> Ends
     ensures { λ r. ⌜ intervalOf r ≡ narrowedOf s (intervalOf e) ⌝ }
 {
@@ -63,7 +63,7 @@ pub fn narrowed(s: Slab, e: Ends) -> Ends
 
 // A line's entries: those of a miss where the ends are not in order.
 pub fn encoded(e: Ends) -> Entries
-    ensures { λ r. ⌜ (r .hit ∷ r .tmin ∷ r .tmax ∷ []) ≡ encodedOf (orderedOf (intervalOf e)) ⌝ }
+    ensures { λ r. ⌜ entriesOf r ≡ encodedOf (orderedOf (intervalOf e)) ⌝ }
 {
     if (e.tmax >= e.tmin) & !e.missed {
         Entries {

@@ -6,22 +6,24 @@ use types::Aabb2;
 use types::Listed;
 use types::Vec2;
 ghost use mathlib.Core.Path.{_≡_};
-ghost use mathlib.Core.List.{[], _∷_, _++_};
+ghost use mathlib.Core.List.{_++_};
 ghost use Prim.Native.Nat.{_+_, _*_, _≤_};
 ghost use lib.ListN.{length, take, drop};
 ghost use Rattle.lists.specs.Lent.{leaves};
 ghost use Rattle.aabb_lines.specs.Results.{width, resultsOf};
+ghost use Rattle.aabb_lines.specs.Structs.{entriesOf};
 ghost use Rattle.aabb_lines.specs.Answer.{intersectionsAgainstLinesOf};
 
-// The floats of a line, and those of its result.
+// How many floats a line has.
 const LINE: usize = 4;
 
+// How many its result has: `width` of the definitions.
 const RESULT: usize = 3;
 
 // The result of the line whose floats begin at a place.
 fn result_at(b: Aabb2, lines: &[f32], at: usize) -> Entries
     requires { ⌜ at + 4 ≤ length (now lines) ⌝ }
-    ensures { λ r. ⌜ (r .hit ∷ r .tmin ∷ r .tmax ∷ []) ≡ resultsOf b (take 4 (drop at (now (lines .entry)))) ⌝ }
+    ensures { λ r. ⌜ entriesOf r ≡ resultsOf b (take 4 (drop at (now (lines .entry)))) ⌝ }
 {
     let origin = Vec2 {
         x: lines[at],
@@ -53,7 +55,8 @@ fn write_results(b: Aabb2, lines: &[f32], n: usize, out: &mut [f32])
     }
 }
 
-// Each line is four floats, its origin and its direction; each result three, as `encodedOf` has them. The answer counts the entries written.
+// The results of all lines, into the first entries of `out`; the answer is how many entries they are. A list of lines with part of a line is
+// refused, and then a list too short for the results.
 pub fn intersections_against_lines(b: Aabb2, lines: &[f32], out: &mut [f32]) -> Listed
     ensures answers { λ r. ⌜ r ≡ intersectionsAgainstLinesOf b (now (lines .entry)) (length (now (out .entry))) ⌝ }
     ensures leaves { λ r. ⌜ now (out .exit) ≡ leaves r (resultsOf b (now (lines .entry))) (now (out .entry)) ⌝ }

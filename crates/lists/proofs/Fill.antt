@@ -1,4 +1,4 @@
--- A loop that fills a list from the front, one entry a turn. Assumes nothing.
+-- A loop that fills a list from the front, an entry or several a turn. Assumes nothing.
 use mathlib.Core.Path.{_≡_, refl, sym, ap, _∙_}
 use mathlib.Core.List.{List, [], _∷_, _++_, append-nil}
 use Prim.Native.Nat.{ℕ, zero, suc, _+_, _<_, _≤_}

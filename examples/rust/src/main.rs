@@ -26,6 +26,11 @@ impl Line {
         Line { face, origin: Vec2 { x, y }, direction: Vec2 { x: dx, y: dy } }
     }
 
+    /// The bits of its box, which are equal where the face is the same, of a NaN too.
+    fn face_bits(&self) -> [u32; 4] {
+        <[f32; 4]>::from(self.face).map(f32::to_bits)
+    }
+
     fn clip(&self) -> Option<Interval> {
         aabb::intersections_against_line(self.face, self.origin, self.direction)
     }
@@ -69,12 +74,16 @@ fn print_section(lines: &[Line]) {
 
 /// All lines of the first record's face, in one call.
 fn print_face(lines: &[Line]) -> Result<(), Refusal> {
-    let Some(Line { face, .. }) = lines.first() else { return Ok(()) };
-    let of_face = lines.iter().filter(|line| line.face == *face);
+    let Some(first) = lines.first() else { return Ok(()) };
+    let of_face = lines.iter().filter(|line| line.face_bits() == first.face_bits());
     let floats: Vec<_> =
         of_face.map(|Line { origin: p, direction: d, .. }| [p.x, p.y, d.x, d.y]).collect();
     let mut results = vec![[0.0; LINE_RESULT_FLOATS]; floats.len()];
-    aabb::intersections_against_lines(*face, floats.as_flattened(), results.as_flattened_mut())?;
+    aabb::intersections_against_lines(
+        first.face,
+        floats.as_flattened(),
+        results.as_flattened_mut(),
+    )?;
     let hits = results.iter().filter(|result| result[0] == 1.0).count();
     println!("first face: {} lines, {hits} hit", floats.len());
     Ok(())

@@ -1,10 +1,11 @@
 -- `aabb_lines::write_results` meets its contract: after i turns the results of the first i lines are written. Assumes nothing.
-use mathlib.Core.Path.{_≡_, ap, _∙_}
-use Prim.Native.Nat.{ℕ, _+_, _*_, _-_, _≤_}
+use mathlib.Core.Path.{_≡_, refl, ap, _∙_}
+use Prim.Native.Nat.{ℕ, suc, _+_, _*_, _-_, _≤_}
 use native.Mathlib.Omega.{arith}
 use denote.Ref.{now}
 use lib.ListN.{length, set, length-set}
 use Rattle.aabb_lines.specs.Results.{width}
+use Rattle.aabb_lines.specs.Structs.{entriesOf}
 use Rattle.aabb_lines.proofs.Results.{over, none-yet, length-over, next}
 use Rattle.aabb_lines.proofs.write_results.Statement.{statement}
 use Rattle.aabb_lines.proofs.write_results.Tie as tie
@@ -45,11 +46,10 @@ loop-again : tie.Need-loop-again Inv-loop μ-loop
 loop-again c =
     let t = c .before .before in
     let a = t .before .before .before .args in
-    let r = c .result-at .result in (
-      omega arith,
-      rw (t .loop .inv .1)
-          (next (a .b) (now (a .lines)) (t .loop .i) (now (a .out)) (r .hit) (r .tmin) (r .tmax) (line (c .before)) (omega (arith, room (c .before), as-long t)) (c .result-at .ensures)),
-    )
+    let second : width * t .loop .i + 1 ≡ suc (width * t .loop .i) = omega arith in
+    let third : width * t .loop .i + 2 ≡ suc (suc (width * t .loop .i)) = omega arith in
+    let more = next (a .b) (now (a .lines)) (t .loop .i) (now (a .out)) (entriesOf (c .result-at .result)) (line (c .before)) in
+    (omega arith, rw (t .loop .inv .1, second, third) (more (omega (arith, room (c .before), as-long t)) refl (c .result-at .ensures)))
 
 returns : tie.Need-returns Inv-loop μ-loop
 returns c =

@@ -20,7 +20,7 @@ pub extern "C" fn intersections_against_line(
     }
 }
 
-/// A loop over the Rust's routine, which is inlined here: it has none for a whole face.
+/// The Rust has no routine for a whole face: a loop over the one for a line, which is inlined here.
 ///
 /// # Safety
 /// The lists start where they are said to, with the lengths given.

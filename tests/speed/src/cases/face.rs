@@ -36,6 +36,8 @@ fn face(name: &str, lines: &[Line], rust: fn(&Face) -> usize) -> Case {
         lines.iter().map(|(origin, direction)| [origin.x, origin.y, direction.x, direction.y]);
     let face = (floats.collect(), RefCell::new(vec![0.0; LINE_RESULT_FLOATS * lines.len()]));
     let results = |call: fn(&Face) -> usize| {
+        // What is not written differs from itself.
+        face.1.borrow_mut().fill(f32::NAN);
         call(&face);
         face.1.borrow().clone()
     };
