@@ -66,7 +66,10 @@ static size_t place_of_room(const char *takes) {
     return place;
 }
 
-/* The length of the list to lend. A room for more than the routine can write is cut: it writes at most an entry a float that it reads. */
+/*
+ * The length of the list to lend. A room for more than the routine can write is cut: it writes at most an entry a float
+ * that it reads.
+ */
 static size_t lent_length(const struct routine *routine, size_t float_count, uint64_t room) {
     uint64_t most = strchr(routine->lists, 'F') != NULL ? float_count : MOST_ENTRIES;
     return room < most ? room : most;

@@ -100,7 +100,7 @@ module _ (b : Aabb2) where
       let whole = length-take-le (4 * n) lines (omega (arith, h)) in
       let place : width * n + length es ≡ width * (n + 1) = omega (arith, w) in
       let longer : 4 * n + 4 ≡ 4 * (n + 1) = omega arith in
-      store-all nan es done l (width * n) (length-first lines n (omega (arith, h))) (omega (arith, w, k))
+      store-all es done l (width * n) (length-first lines n (omega (arith, h))) (omega (arith, w, k))
       ∙ ap (λ (r : List Float). (done ++ r) ++ drop (width * n + length es) l) e
       ∙ ap (λ (r : List Float). r ++ drop (width * n + length es) l) (sym (results-append n (take (4 * n) lines) (take 4 (drop (4 * n) lines)) whole))
       ∙ ap (λ (r : List Float). resultsOf b r ++ drop (width * n + length es) l) (sym (take-add (4 * n) 4 lines))

@@ -11,11 +11,11 @@ use Rattle.hatch_format.specs.Decode.{patternAt}
 use Rattle.hatch_read.specs.Loading.{entryAt, filled}
 
 -- float j of record i, stored after those before it
-pub more : {A : Type 0} (d : A) (f : ℕ → A) (width i j : ℕ) (b : List ℕ) (l : List A) {v : A} → v ≡ f (patternAt width b (8 * i + j)) → 8 * i + j < length l
+pub more : {A : Type 0} (f : ℕ → A) (width i j : ℕ) (b : List ℕ) (l : List A) {v : A} → v ≡ f (patternAt width b (8 * i + j)) → 8 * i + j < length l
     → set (filled f width b (8 * i + j) l) (8 * i + j) v ≡ filled f width b (8 * i + (j + 1)) l
-more d f width i j b l e h =
+more f width i j b l e h =
     ap (set (filled f width b (8 * i + j) l) (8 * i + j)) e
-    ∙ fill-more (entryAt f width b) d (8 * i + j) l h
+    ∙ fill-more (entryAt f width b) (8 * i + j) l h
     ∙ ap (λ (k : ℕ). filled f width b k l) (omega arith)
 
 -- the list t has the first i records: the inner loop begins with it, and leaves the list u after j floats

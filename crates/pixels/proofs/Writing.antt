@@ -87,7 +87,7 @@ module _ {w h : ℕ} {a b : Axis} {steps : ℕ} {l list : List ℕ} {p : Vec2} {
       E = entered w h a b k
 
       go : (t : Bool) → onImage w h p ≡ t → setIf t (E ++ drop n l) n (number w p) ≡ (E ++ keepIf t (number w p) []) ++ drop (n + oneIf t) l
-      go true on = store-next 0 E l n (number w p) (sym (g .counting .count)) (left less on) ∙ ap (λ (i : ℕ). (E ++ (number w p ∷ [])) ++ drop i l) (sym (add-one n))
+      go true on = store-next E l n (number w p) (sym (g .counting .count)) (left less on) ∙ ap (λ (i : ℕ). (E ++ (number w p ∷ [])) ++ drop i l) (sym (add-one n))
       go false on = ap (λ (i : ℕ). E ++ drop i l) (sym (add-zero n)) ∙ ap (λ (t : List ℕ). t ++ drop (n + 0) l) (sym (append-nil E))
 
   pub writing-end : steps ≤ k → (r : Reached) → r .count ≡ n → r .position ≡ p → Entered w h a b steps r l list
@@ -122,7 +122,7 @@ closing {w} {h} {a} {b} {k} {r} {l} {list} g room v e =
       count-is = ap (λ (i : ℕ). i + 1) (g .count-is) ∙ sym c;
       list-is =
           ap (λ (t : List ℕ). set t (r .count) v) (g .list-is) ∙ ap (λ (i : ℕ). set (E ++ drop (length E) l) i v) (g .count-is)
-          ∙ store-next 0 E l (length E) v refl room
+          ∙ store-next E l (length E) v refl room
           ∙ ap (λ (i : ℕ). (E ++ (i ∷ [])) ++ drop (suc (length E)) l) (e ∙ ap (number w) (g .position-is))
           ∙ ap (λ (i : ℕ). closed w h a b k ++ drop i l) (sym (c ∙ add-one (length E)));
     }

@@ -53,7 +53,7 @@ loop-less c = omega arith
 loop-again : tie.Need-loop-again Inv-loop μ-loop
 loop-again c =
     let turn = c .before .before in
-    (omega arith, rw (turn .loop .inv .1, c .of-bits .ensures) (fill-more (floatAt (turn .before .record-bits .result)) nan (turn .loop .i) _ (c .before .loop-test .taken)))
+    (omega arith, rw (turn .loop .inv .1, c .of-bits .ensures) (fill-more (floatAt (turn .before .record-bits .result)) (turn .loop .i) _ (c .before .loop-test .taken)))
 
 returns : tie.Need-returns Inv-loop μ-loop
 unfolding upto

@@ -45,7 +45,7 @@ loop-again : tie.Need-loop-again Inv-loop μ-loop
 loop-again c =
     let turn = c .before .before .loop in
     let a = c .before .before .before .before .args in
-    (omega arith, rw (turn .inv .1, c .word .ensures) (fill-more (wordFrom (now (a .bytes)) (a .at)) 0 (turn .i) (replicate 8 0) (omega arith)))
+    (omega arith, rw (turn .inv .1, c .word .ensures) (fill-more (wordFrom (now (a .bytes)) (a .at)) (turn .i) (replicate 8 0) (omega arith)))
 
 returns : tie.Need-returns Inv-loop μ-loop
 unfolding upto
