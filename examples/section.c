@@ -8,6 +8,7 @@
  */
 #include <bagnoszyk.h>
 #include <inttypes.h>
+#include <math.h>
 #include <stdio.h>
 #include <string.h>
 
@@ -117,7 +118,8 @@ int main(int argc, char **argv) {
 
     bgz_read_answer read = bgz_hatch_read_floats(bytes, length, floats, FLOATS);
     if (read.status != BGZ_ANSWERED) {
-        fprintf(stderr, "refused %" PRIu32 ": %s\n", read.status, bgz_refusal_text(read.status));
+        const char *text = bgz_refusal_text(read.status);
+        fprintf(stderr, "refused %" PRIu32 " at byte %zu: %s\n", read.status, read.place, text);
         return 1;
     }
     print_section(floats, read.count);
@@ -131,6 +133,11 @@ int main(int argc, char **argv) {
     print_list("rising stroke", list, pixels.count);
     pixels = bgz_edge2_overlapping_pixels_dda(8, 8, high_left, low_right, list, 16);
     print_list("falling stroke", list, pixels.count);
+
+    /* A stroke to a point that is not there: refused, and the place tells which of the four coordinates it is. */
+    bgz_vec2 nowhere = {NAN, 3.5f};
+    pixels = bgz_edge2_overlapping_pixels_dda(8, 8, low_left, nowhere, list, 16);
+    printf("stroke refused: %" PRIu32 " at %zu\n", pixels.status, pixels.place);
 
     /* A box on a sheet of 4 by 3 tiles of side 16. */
     bgz_aabb2 face = {10, 10, 40, 20};

@@ -1,5 +1,5 @@
 /*
- * Bagnoszyk 0.1.0: geometry for patent drawings in f32, proved. The C interface, in C99 and C++11 and all later versions.
+ * Bagnoszyk 0.2.0: geometry for patent drawings in f32, proved. The C interface, in C99 and C++11 and all later versions.
  * Made from the Rattle sources by tests/generate. Licence: MIT, see NOTICE (installed under share/doc/bagnoszyk).
  *
  * Calls. Every routine takes any bits in every number, NaN and infinities among them, ends, and gives an answer, none, or
@@ -7,8 +7,12 @@
  * at the same time; a list that one call writes must be in use by no other call. It is built for x86-64 Linux.
  *
  * Answers. A struct bgz_..._answer has a status: BGZ_ANSWERED (0), BGZ_NONE (255), or the number of a refusal. Where the
- * status is not 0, every other field is 0. Conditions of a refusal are listed in the order in which they are tested; the
- * first that holds gives the number. Only routines whose comment says so refuse, or give BGZ_NONE.
+ * status is not 0, every other field is 0, but for the place of a refusal that tells one. Conditions of a refusal are
+ * listed in the order in which they are tested; the first that holds gives the number. Only routines whose comment says
+ * so refuse, or give BGZ_NONE. Which refusals tell a place, and what it counts, stands under Place in a routine's
+ * comment; with any other status the place is 0, which is a place too, so look at the status first.
+ *
+ * Versions. Header and archive must be of one version: a later one may have structs with more fields.
  *
  * Floats. Each operation is rounded to the nearest float, ties to even, as IEEE 754 has it. The caller must leave the
  * rounding mode as it is at the start of a program, and subnormal numbers on: a program linked with -ffast-math may turn
@@ -38,7 +42,7 @@
 extern "C" {
 #endif
 
-#define BAGNOSZYK_VERSION "0.1.0"
+#define BAGNOSZYK_VERSION "0.2.0"
 
 /* ---- limits, and the floats of a line */
 
@@ -57,22 +61,23 @@ extern "C" {
 /* ---- the status of an answer */
 
 enum bgz_status {
-    BGZ_ANSWERED = 0,            /* an answer: it stands in the other fields */
-    BGZ_REFUSED_ROOM = 1,        /* a lent list is shorter than what is to be written */
-    BGZ_REFUSED_SAME_ENDS = 2,   /* both ends of a stroke are equal */
-    BGZ_REFUSED_COORDINATE = 3,  /* a coordinate is not finite, or too large */
-    BGZ_REFUSED_SIZE = 4,        /* a side of an image or a sheet is too large, or a tile size is 0 or too large */
-    BGZ_REFUSED_ORDER = 5,       /* a range is not ordered: low is not at most high */
-    BGZ_REFUSED_RADIUS = 6,      /* a radius is not at least 0 */
-    BGZ_REFUSED_NAN_LENGTH = 7,  /* a length to the turned box is NaN */
-    BGZ_REFUSED_NO_IMAGE = 8,    /* a corner has no image */
-    BGZ_REFUSED_INDEX = 9,       /* an index is not below the number of boxes */
-    BGZ_REFUSED_MARK = 10,       /* a hatch list does not begin with its mark */
-    BGZ_REFUSED_VERSION = 11,    /* a hatch list has an unknown version */
-    BGZ_REFUSED_COUNT = 12,      /* a hatch list has too many records */
-    BGZ_REFUSED_LENGTH = 13,     /* the bytes of a hatch list are too few or too many */
-    BGZ_REFUSED_LINES = 14,      /* a list of lines is not a multiple of four floats */
-    BGZ_NONE = 255               /* no refusal, and none of what was asked for */
+    BGZ_ANSWERED = 0,             /* an answer: it stands in the other fields */
+    BGZ_REFUSED_ROOM = 1,         /* a lent list is shorter than what is to be written */
+    BGZ_REFUSED_SAME_ENDS = 2,    /* both ends of a stroke are equal */
+    BGZ_REFUSED_COORDINATE = 3,   /* a coordinate is above its limit in size, or for tiles not finite */
+    BGZ_REFUSED_SIZE = 4,         /* a side of an image or a sheet is too large, or a tile size is 0 or too large */
+    BGZ_REFUSED_ORDER = 5,        /* a range is not ordered: low is not at most high */
+    BGZ_REFUSED_RADIUS = 6,       /* a radius is not at least 0 */
+    BGZ_REFUSED_NAN_LENGTH = 7,   /* a length to the turned box is NaN */
+    BGZ_REFUSED_NO_IMAGE = 8,     /* a corner has no image */
+    BGZ_REFUSED_INDEX = 9,        /* an index is not below the number of boxes */
+    BGZ_REFUSED_MARK = 10,        /* a hatch list does not begin with its mark */
+    BGZ_REFUSED_VERSION = 11,     /* a hatch list has an unknown version */
+    BGZ_REFUSED_COUNT = 12,       /* a hatch list has too many records */
+    BGZ_REFUSED_LENGTH = 13,      /* the bytes of a hatch list are too few or too many */
+    BGZ_REFUSED_LINES = 14,       /* a list of lines is not a multiple of four floats */
+    BGZ_REFUSED_NOT_FINITE = 15,  /* a coordinate of a stroke is not finite */
+    BGZ_NONE = 255                /* no refusal, and none of what was asked for */
 };
 
 /* What a status says, in one line. */
@@ -85,7 +90,7 @@ static inline const char *bgz_refusal_text(uint32_t status) {
     case BGZ_REFUSED_SAME_ENDS:
         return "both ends of a stroke are equal";
     case BGZ_REFUSED_COORDINATE:
-        return "a coordinate is not finite, or too large";
+        return "a coordinate is above its limit in size, or for tiles not finite";
     case BGZ_REFUSED_SIZE:
         return "a side of an image or a sheet is too large, or a tile size is 0 or too large";
     case BGZ_REFUSED_ORDER:
@@ -108,6 +113,8 @@ static inline const char *bgz_refusal_text(uint32_t status) {
         return "the bytes of a hatch list are too few or too many";
     case BGZ_REFUSED_LINES:
         return "a list of lines is not a multiple of four floats";
+    case BGZ_REFUSED_NOT_FINITE:
+        return "a coordinate of a stroke is not finite";
     case BGZ_NONE:
         return "no refusal, and none of what was asked for";
     default:
@@ -214,6 +221,7 @@ typedef struct bgz_pixels_answer {
 typedef struct bgz_count_answer {
     uint32_t status;
     size_t count;
+    size_t place;     /* The place of a refusal that tells one, and else 0. */
 } bgz_count_answer;
 
 /* The version of a hatch list, and how many records were read. */
@@ -221,6 +229,7 @@ typedef struct bgz_read_answer {
     uint32_t status;
     size_t version;   /* The version. */
     size_t count;     /* The number of records. */
+    size_t place;     /* The byte of a refusal, and else 0. */
 } bgz_read_answer;
 
 /* ---- f32: float helpers. */
@@ -424,8 +433,11 @@ bgz_float_answer bgz_edge2_ink(bgz_vec2 s, bgz_vec2 e, bgz_aabb2 b);
  * before it.
  * Writes the entries to the start of list and answers how many: at most one more than the longer of width and height,
  * so a list of that length is never too short.
- * Refused: BGZ_REFUSED_SIZE if width or height is above 16,384; BGZ_REFUSED_COORDINATE if a coordinate is not finite or
- * is above 65,536 in size; BGZ_REFUSED_SAME_ENDS if p0 equals p1; BGZ_REFUSED_ROOM if list is shorter than the entries.
+ * Refused: BGZ_REFUSED_SIZE if width or height is above 16,384; of the coordinates p0.x, p0.y, p1.x, p1.y the first
+ * that offends decides: BGZ_REFUSED_NOT_FINITE if it is not finite, BGZ_REFUSED_COORDINATE if it is above 65,536 in
+ * size; BGZ_REFUSED_SAME_ENDS if p0 equals p1; BGZ_REFUSED_ROOM if list is shorter than the entries.
+ * Place: BGZ_REFUSED_NOT_FINITE and BGZ_REFUSED_COORDINATE tell which coordinate, 0 to 3 in that order; the others tell
+ * none.
  * Example: 8, 4, (1.5, 1.5), (3.5, 1.5), [0; 6] gives 4 and leaves [9, 10, 11, 12, 0, 0].
  */
 bgz_count_answer bgz_edge2_overlapping_pixels_dda(size_t width, size_t height, bgz_vec2 p0, bgz_vec2 p1, uint32_t *list,
@@ -678,6 +690,9 @@ bool bgz_obb2_is_intersect_aabb2(bgz_obb2 o, bgz_aabb2 b);
  * Refused: BGZ_REFUSED_MARK if the bytes do not begin with "HSL"; BGZ_REFUSED_LENGTH if they are fewer than 7;
  * BGZ_REFUSED_VERSION if the version is not 1; BGZ_REFUSED_COUNT if the count is above 2,000; BGZ_REFUSED_LENGTH if
  * they are not 7 + 32 * count; BGZ_REFUSED_ROOM if out is shorter than 8 * count.
+ * Place: a byte, from 0 on: 0 with BGZ_REFUSED_MARK, 3 with BGZ_REFUSED_VERSION, 5 with BGZ_REFUSED_COUNT; with
+ * BGZ_REFUSED_LENGTH the number of the bytes if they are too few, and 7 + 32 * count if they are too many; with
+ * BGZ_REFUSED_ROOM 7 + 32 * count.
  * Example: "HSL\1\0\0\0", [] gives (1, 0).
  */
 bgz_read_answer bgz_hatch_read_floats(const void *bytes, size_t bytes_length, float *out, size_t out_length);
@@ -686,6 +701,7 @@ bgz_read_answer bgz_hatch_read_floats(const void *bytes, size_t bytes_length, fl
  * bgz_hatch_read_floats with each float as its bits, so that a NaN keeps them.
  * Writes the 8 * count patterns to the start of out and answers version and count.
  * Refused: as bgz_hatch_read_floats is.
+ * Place: that of bgz_hatch_read_floats.
  * Example: "HSL\1\0\0\0", [] gives (1, 0).
  */
 bgz_read_answer bgz_hatch_read_patterns(const void *bytes, size_t bytes_length, uint32_t *out, size_t out_length);
@@ -700,7 +716,7 @@ size_t bgz_hatch_record_count(const float *floats, size_t floats_length);
  * The report on a hatch list, as text: each record clipped as a line. "HSL", version and count; then for each record a
  * line with its place from 1 and "miss", or "hit" with tmin and tmax as eight hexadecimal digits of their bits, any
  * zero as 00000000. Fields stand one space apart, and a line ends in a line feed. For bytes that are no hatch list the
- * text is "refused" and the number that bgz_hatch_read_floats gives.
+ * text is "refused", the number and the byte that bgz_hatch_read_floats gives.
  * Writes as much of the text as out has room for to its start, with no NUL after it, and answers the bytes of the whole
  * text.
  * Example: "HSL\1\0\0\0", [0; 8] gives 8 and leaves "HSL 1 0\n".

@@ -2,7 +2,7 @@
 //!
 //! Written by tests/generate from crates/c_answers/src/lib.rt and crates/c_hatch/src/answer.rt; not to be edited.
 
-use crate::refusal::Refusal;
+use crate::refusal::{Refusal, RefusalAt};
 use crate::shapes::{Aabb2, Vec2};
 
 /// The status of an answer.
@@ -132,12 +132,19 @@ impl PixelsAnswer {
 pub struct CountAnswer {
     pub status: u32,
     pub count: usize,
+    /// The place of a refusal that tells one, and else 0.
+    pub place: usize,
 }
 
 impl CountAnswer {
     #[inline]
     pub fn result(self) -> Result<usize, Refusal> {
         result(self.status, self.count)
+    }
+
+    #[inline]
+    pub fn result_at(self, placed: &[Refusal]) -> Result<usize, RefusalAt> {
+        result_at(self.status, self.count, self.place, placed)
     }
 }
 
@@ -148,12 +155,19 @@ pub struct ReadAnswer {
     pub version: usize,
     /// The number of records.
     pub count: usize,
+    /// The byte of a refusal, and else 0.
+    pub place: usize,
 }
 
 impl ReadAnswer {
     #[inline]
-    pub fn result(self) -> Result<Read, Refusal> {
-        result(self.status, Read { version: self.version, count: self.count })
+    pub fn result_at(self, placed: &[Refusal]) -> Result<Read, RefusalAt> {
+        result_at(
+            self.status,
+            Read { version: self.version, count: self.count },
+            self.place,
+            placed,
+        )
     }
 }
 
@@ -170,4 +184,16 @@ pub(crate) fn result<T>(status: u32, value: T) -> Result<T, Refusal> {
 #[inline]
 pub(crate) fn result_of_option<T>(status: u32, value: T) -> Result<Option<T>, Refusal> {
     if status == NONE { Ok(None) } else { result(status, value).map(Some) }
+}
+
+/// `placed` are the refusals that tell a place.
+#[inline]
+pub(crate) fn result_at<T>(
+    status: u32,
+    value: T,
+    place: usize,
+    placed: &[Refusal],
+) -> Result<T, RefusalAt> {
+    result(status, value)
+        .map_err(|refusal| RefusalAt { refusal, place: placed.contains(&refusal).then_some(place) })
 }

@@ -2,7 +2,7 @@
 //!
 //! Written by tests/generate from the exported functions bgz_edge2_..; not to be edited.
 
-use crate::refusal::Refusal;
+use crate::refusal::{Refusal, RefusalAt};
 use crate::shapes::{Aabb2, OnEdge, Vec2};
 
 unsafe extern "C" {
@@ -216,9 +216,13 @@ pub fn ink(s: Vec2, e: Vec2, b: Aabb2) -> Result<f32, Refusal> {
 ///
 /// # Errors
 ///
-/// [`Refusal::SIZE`] if `width` or `height` is above 16,384; [`Refusal::COORDINATE`] if a
-/// coordinate is not finite or is above 65,536 in size; [`Refusal::SAME_ENDS`] if `p0` equals `p1`;
-/// [`Refusal::ROOM`] if `list` is shorter than the entries.
+/// [`Refusal::SIZE`] if `width` or `height` is above 16,384; of the coordinates `p0.x`, `p0.y`,
+/// `p1.x`, `p1.y` the first that offends decides: [`Refusal::NOT_FINITE`] if it is not finite,
+/// [`Refusal::COORDINATE`] if it is above 65,536 in size; [`Refusal::SAME_ENDS`] if `p0` equals
+/// `p1`; [`Refusal::ROOM`] if `list` is shorter than the entries.
+///
+/// Place: [`Refusal::NOT_FINITE`] and [`Refusal::COORDINATE`] tell which coordinate, 0 to 3 in that
+/// order; the others tell none.
 ///
 /// # Example
 ///
@@ -238,10 +242,10 @@ pub fn overlapping_pixels_dda(
     p0: Vec2,
     p1: Vec2,
     list: &mut [u32],
-) -> Result<usize, Refusal> {
+) -> Result<usize, RefusalAt> {
     let a = unsafe {
         // SAFETY: each list is lent for the call alone, by its start and its length.
         raw::overlapping_pixels_dda(width, height, p0, p1, list.as_mut_ptr(), list.len())
     };
-    a.result()
+    a.result_at(&[Refusal::COORDINATE, Refusal::NOT_FINITE])
 }

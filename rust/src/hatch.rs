@@ -5,7 +5,7 @@
 //! Written by tests/generate from the exported functions bgz_hatch_..; not to be edited.
 
 use crate::answers::Read;
-use crate::refusal::Refusal;
+use crate::refusal::{Refusal, RefusalAt};
 
 mod raw {
     use crate::answers::*;
@@ -52,6 +52,10 @@ mod raw {
 /// 2,000; [`Refusal::LENGTH`] if they are not 7 + 32 * count; [`Refusal::ROOM`] if `out` is shorter
 /// than 8 * count.
 ///
+/// Place: a byte, from 0 on: 0 with [`Refusal::MARK`], 3 with [`Refusal::VERSION`], 5 with
+/// [`Refusal::COUNT`]; with [`Refusal::LENGTH`] the number of the bytes if they are too few, and 7
+/// + 32 * count if they are too many; with [`Refusal::ROOM`] 7 + 32 * count.
+///
 /// # Example
 ///
 /// ```
@@ -61,12 +65,12 @@ mod raw {
 /// assert_eq!(hatch::read_floats(b"HSL\x01\0\0\0", &mut out), Ok(Read { version: 1, count: 0 }));
 /// ```
 #[inline]
-pub fn read_floats(bytes: &[u8], out: &mut [f32]) -> Result<Read, Refusal> {
+pub fn read_floats(bytes: &[u8], out: &mut [f32]) -> Result<Read, RefusalAt> {
     let a = unsafe {
         // SAFETY: each list is lent for the call alone, by its start and its length.
         raw::read_floats(bytes.as_ptr(), bytes.len(), out.as_mut_ptr(), out.len())
     };
-    a.result()
+    a.result_at(&[Refusal::ROOM, Refusal::MARK, Refusal::VERSION, Refusal::COUNT, Refusal::LENGTH])
 }
 
 /// [`hatch::read_floats`](crate::hatch::read_floats) with each float as its bits, so that a NaN
@@ -78,6 +82,8 @@ pub fn read_floats(bytes: &[u8], out: &mut [f32]) -> Result<Read, Refusal> {
 ///
 /// The refusals of [`hatch::read_floats`](crate::hatch::read_floats), in the same order.
 ///
+/// Place: that of [`hatch::read_floats`](crate::hatch::read_floats).
+///
 /// # Example
 ///
 /// ```
@@ -87,12 +93,12 @@ pub fn read_floats(bytes: &[u8], out: &mut [f32]) -> Result<Read, Refusal> {
 /// assert_eq!(hatch::read_patterns(b"HSL\x01\0\0\0", &mut out), Ok(Read { version: 1, count: 0 }));
 /// ```
 #[inline]
-pub fn read_patterns(bytes: &[u8], out: &mut [u32]) -> Result<Read, Refusal> {
+pub fn read_patterns(bytes: &[u8], out: &mut [u32]) -> Result<Read, RefusalAt> {
     let a = unsafe {
         // SAFETY: each list is lent for the call alone, by its start and its length.
         raw::read_patterns(bytes.as_ptr(), bytes.len(), out.as_mut_ptr(), out.len())
     };
-    a.result()
+    a.result_at(&[Refusal::ROOM, Refusal::MARK, Refusal::VERSION, Refusal::COUNT, Refusal::LENGTH])
 }
 
 /// How many records a list of floats has, eight floats each; an incomplete last one does not count.
@@ -115,8 +121,8 @@ pub fn record_count(floats: &[f32]) -> usize {
 /// The report on a hatch list, as text: each record clipped as a line. "HSL", version and count;
 /// then for each record a line with its place from 1 and "miss", or "hit" with tmin and tmax as
 /// eight hexadecimal digits of their bits, any zero as 00000000. Fields stand one space apart, and
-/// a line ends in a line feed. For bytes that are no hatch list the text is "refused" and the
-/// number that [`hatch::read_floats`](crate::hatch::read_floats) gives.
+/// a line ends in a line feed. For bytes that are no hatch list the text is "refused", the number
+/// and the byte that [`hatch::read_floats`](crate::hatch::read_floats) gives.
 ///
 /// Writes as much of the text as `out` has room for to its start, with no NUL after it, and answers
 /// the bytes of the whole text.

@@ -1,12 +1,13 @@
 //! Geometry for patent drawings in f32, proved: the library's C ABI as safe Rust, a file for each module.
 //!
-//! Every function takes any bits and ends. What may be missing is an [`Option`], and what may be refused a [`Result`] with a [`Refusal`].
+//! Every function takes any bits and ends. What may be missing is an [`Option`], and what may be refused a [`Result`] with a [`Refusal`], or
+//! with a [`RefusalAt`] where a refusal may tell a place.
 //! Under Errors the conditions stand in the order in which they are tested; the first that holds is the refusal. A lent list is written
 //! from its start, its other entries stay as they are, and a refused call changes nothing. Functions keep no state; threads may call at the
 //! same time.
 //!
 //! ```
-//! use bagnoszyk::{Aabb2, Refusal, Vec2, aabb, aabb2};
+//! use bagnoszyk::{Aabb2, Refusal, Vec2, aabb, aabb2, edge2};
 //!
 //! fn stretch(p: Vec2, q: Vec2) -> Result<f32, Refusal> {
 //!     let face = aabb2::add_point(aabb2::from_point(p, 0.0)?, q, 1.0)?;
@@ -21,6 +22,13 @@
 //! assert_eq!(refused, Refusal::ORDER);
 //! assert_eq!(refused.to_string(), "a range is not ordered: low is not at most high");
 //! assert_eq!(format!("{refused:?}"), "ORDER (5): a range is not ordered: low is not at most high");
+//!
+//! let (start, end) = (Vec2 { x: 0.5, y: 0.5 }, Vec2 { x: f32::NAN, y: 0.5 });
+//! let refused = edge2::overlapping_pixels_dda(8, 8, start, end, &mut [0; 9]).unwrap_err();
+//! assert_eq!(refused, Refusal::NOT_FINITE.at(2));
+//! assert_eq!(refused.to_string(), "a coordinate of a stroke is not finite (place 2)");
+//! assert_eq!(format!("{refused:?}"), "NOT_FINITE (15) at 2: a coordinate of a stroke is not finite");
+//! assert_eq!(Refusal::from(refused), Refusal::NOT_FINITE);
 //! ```
 //!
 //! # Floats
@@ -67,6 +75,6 @@ pub mod vec2;
 mod view;
 
 pub use answers::{Interval, Pixels, Read};
-pub use refusal::Refusal;
+pub use refusal::{Refusal, RefusalAt};
 pub use shapes::*;
 pub use view::Boxes;

@@ -16,7 +16,7 @@ impl Refusal {
     /// Both ends of a stroke are equal.
     pub const SAME_ENDS: Refusal = Refusal(2);
 
-    /// A coordinate is not finite, or too large.
+    /// A coordinate is above its limit in size, or for tiles not finite.
     pub const COORDINATE: Refusal = Refusal(3);
 
     /// A side of an image or a sheet is too large, or a tile size is 0 or too large.
@@ -52,10 +52,19 @@ impl Refusal {
     /// A list of lines is not a multiple of four floats.
     pub const LINES: Refusal = Refusal(14);
 
+    /// A coordinate of a stroke is not finite.
+    pub const NOT_FINITE: Refusal = Refusal(15);
+
     /// The number of the refusal.
     #[inline]
     pub const fn number(self) -> u32 {
         self.0
+    }
+
+    /// The refusal at a place, to compare an error with: `refused == Refusal::NOT_FINITE.at(2)`.
+    #[inline]
+    pub const fn at(self, place: usize) -> RefusalAt {
+        RefusalAt { refusal: self, place: Some(place) }
     }
 
     #[inline]
@@ -67,7 +76,9 @@ impl Refusal {
         match self {
             Refusal::ROOM => ("ROOM", "a lent list is shorter than what is to be written"),
             Refusal::SAME_ENDS => ("SAME_ENDS", "both ends of a stroke are equal"),
-            Refusal::COORDINATE => ("COORDINATE", "a coordinate is not finite, or too large"),
+            Refusal::COORDINATE => {
+                ("COORDINATE", "a coordinate is above its limit in size, or for tiles not finite")
+            }
             Refusal::SIZE => (
                 "SIZE",
                 "a side of an image or a sheet is too large, or a tile size is 0 or too large",
@@ -82,6 +93,7 @@ impl Refusal {
             Refusal::COUNT => ("COUNT", "a hatch list has too many records"),
             Refusal::LENGTH => ("LENGTH", "the bytes of a hatch list are too few or too many"),
             Refusal::LINES => ("LINES", "a list of lines is not a multiple of four floats"),
+            Refusal::NOT_FINITE => ("NOT_FINITE", "a coordinate of a stroke is not finite"),
             _ => ("UNKNOWN", "not a refusal of this library"),
         }
     }
@@ -102,3 +114,58 @@ impl fmt::Debug for Refusal {
 }
 
 impl Error for Refusal {}
+
+/// A refusal, with its place if it tells one. Which refusals do, and what the place counts, stands
+/// under Errors in the documentation of each routine.
+#[derive(Clone, Copy, PartialEq, Eq, Hash)]
+pub struct RefusalAt {
+    /// Why the call was refused.
+    pub refusal: Refusal,
+    /// The place, and `None` if this refusal tells none. 0 is a place too.
+    pub place: Option<usize>,
+}
+
+impl RefusalAt {
+    /// The number of the refusal.
+    #[inline]
+    pub const fn number(self) -> u32 {
+        self.refusal.number()
+    }
+}
+
+/// For `?` in a function whose errors are refusals alone: the place is dropped.
+impl From<RefusalAt> for Refusal {
+    fn from(told: RefusalAt) -> Self {
+        told.refusal
+    }
+}
+
+/// For `?` in a function whose errors may have a place. This one has none, and equals none that
+/// has.
+impl From<Refusal> for RefusalAt {
+    fn from(refusal: Refusal) -> Self {
+        RefusalAt { refusal, place: None }
+    }
+}
+
+impl fmt::Display for RefusalAt {
+    fn fmt(&self, f: &mut fmt::Formatter<'_>) -> fmt::Result {
+        match self.place {
+            Some(place) => write!(f, "{} (place {place})", self.refusal),
+            None => write!(f, "{}", self.refusal),
+        }
+    }
+}
+
+/// Name, number, place and text, for the message of a panic.
+impl fmt::Debug for RefusalAt {
+    fn fmt(&self, f: &mut fmt::Formatter<'_>) -> fmt::Result {
+        let (name, text) = self.refusal.name_and_text();
+        match self.place {
+            Some(place) => write!(f, "{name} ({}) at {place}: {text}", self.number()),
+            None => write!(f, "{:?}", self.refusal),
+        }
+    }
+}
+
+impl Error for RefusalAt {}

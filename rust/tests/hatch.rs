@@ -1,6 +1,6 @@
 //! The hatch list through the C ABI: what is read, what is reported, each refusal, and what becomes of the lent lists.
 
-use bagnoszyk::{Read, Refusal, hatch};
+use bagnoszyk::{Read, Refusal, RefusalAt, hatch};
 
 const SECTION: &[u8] = include_bytes!("../../examples/section.hsl");
 const REPORT: &[u8] = include_bytes!("../../crates/hatch_clip/stdout");
@@ -51,36 +51,39 @@ fn a_report_with_no_room_is_cut_and_counted() {
 }
 
 #[test]
-fn a_refusal_gives_its_number_and_changes_nothing() {
+fn a_refusal_gives_its_number_and_byte_and_changes_nothing() {
     let edited = |at: usize, byte: u8| {
         let mut bytes = SECTION.to_vec();
         bytes[at] = byte;
         bytes
     };
+    let longer = [SECTION, &[0]].concat();
     // The second byte of the count: 0x0832 records.
     let too_many = edited(6, 8);
-    let cases: [(&[u8], usize, Refusal); 8] = [
-        (b"", 16_000, Refusal::MARK),
-        (&edited(2, b'l'), 16_000, Refusal::MARK),
-        (&SECTION[..6], 16_000, Refusal::LENGTH),
-        (&edited(3, 2), 16_000, Refusal::VERSION),
-        (&too_many, 16_000, Refusal::COUNT),
-        (&SECTION[..SECTION.len() - 1], 16_000, Refusal::LENGTH),
-        (SECTION, 8 * 306 - 1, Refusal::ROOM),
-        (SECTION, 0, Refusal::ROOM),
+    let cases: [(&[u8], usize, RefusalAt); 9] = [
+        (b"", 16_000, Refusal::MARK.at(0)),
+        (&edited(2, b'l'), 16_000, Refusal::MARK.at(0)),
+        (&SECTION[..6], 16_000, Refusal::LENGTH.at(6)),
+        (&edited(3, 2), 16_000, Refusal::VERSION.at(3)),
+        (&too_many, 16_000, Refusal::COUNT.at(5)),
+        (&SECTION[..SECTION.len() - 1], 16_000, Refusal::LENGTH.at(SECTION.len() - 1)),
+        (&longer, 16_000, Refusal::LENGTH.at(SECTION.len())),
+        (SECTION, 8 * 306 - 1, Refusal::ROOM.at(SECTION.len())),
+        (SECTION, 0, Refusal::ROOM.at(SECTION.len())),
     ];
-    for (bytes, room, refusal) in cases {
+    for (bytes, room, refused) in cases {
         let mut patterns = vec![MARKED; room];
-        assert_eq!(hatch::read_patterns(bytes, &mut patterns), Err(refusal));
+        assert_eq!(hatch::read_patterns(bytes, &mut patterns), Err(refused));
         assert!(patterns.iter().all(|&x| x == MARKED));
 
         let mut floats = vec![f32::from_bits(MARKED); room];
-        assert_eq!(hatch::read_floats(bytes, &mut floats), Err(refusal));
+        assert_eq!(hatch::read_floats(bytes, &mut floats), Err(refused));
         assert!(floats.iter().all(|x| x.to_bits() == MARKED));
-        if refusal != Refusal::ROOM {
+        if refused.refusal != Refusal::ROOM {
             let mut out = [0; 100];
             let length = hatch::report(bytes, &mut out);
-            assert_eq!(out[..length], *format!("refused {}\n", refusal.number()).as_bytes());
+            let (number, place) = (refused.number(), refused.place.unwrap());
+            assert_eq!(out[..length], *format!("refused {number} {place}\n").as_bytes());
         }
     }
 }

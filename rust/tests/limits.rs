@@ -1,11 +1,11 @@
 //! The limits: each is taken, and one more is refused; what is written at most is what the longest hatch list makes.
 
 use bagnoszyk::limits::*;
-use bagnoszyk::{Aabb2, Refusal, Vec2, aabb2, edge2, hatch};
+use bagnoszyk::{Aabb2, Refusal, RefusalAt, Vec2, aabb2, edge2, hatch};
 
 const UNIT: Aabb2 = Aabb2 { min_x: 0.0, min_y: 0.0, max_x: 1.0, max_y: 1.0 };
 
-fn stroke(width: usize, height: usize, far: f32) -> Result<usize, Refusal> {
+fn stroke(width: usize, height: usize, far: f32) -> Result<usize, RefusalAt> {
     let (p0, p1) = (Vec2 { x: 0.5, y: 0.5 }, Vec2 { x: far, y: 0.5 });
     edge2::overlapping_pixels_dda(width, height, p0, p1, &mut vec![0; STROKE_ENTRIES_MAX])
 }
@@ -30,8 +30,8 @@ fn sides_of_an_image() {
     assert_eq!(aabb2::rasterize(UNIT, above, 1), Err(Refusal::SIZE));
     assert_eq!(aabb2::rasterize(UNIT, 1, above), Err(Refusal::SIZE));
     assert!(stroke(IMAGE_SIDE_MAX, IMAGE_SIDE_MAX, 2.0).is_ok());
-    assert_eq!(stroke(above, 1, 2.0), Err(Refusal::SIZE));
-    assert_eq!(stroke(1, above, 2.0), Err(Refusal::SIZE));
+    assert_eq!(stroke(above, 1, 2.0), Err(Refusal::SIZE.into()));
+    assert_eq!(stroke(1, above, 2.0), Err(Refusal::SIZE.into()));
     assert!(tiles(1.0, 1, IMAGE_SIDE_MAX, IMAGE_SIDE_MAX).is_ok());
     assert_eq!(tiles(1.0, 1, above, 1), Err(Refusal::SIZE));
     assert_eq!(tiles(1.0, 1, 1, above), Err(Refusal::SIZE));
@@ -40,9 +40,34 @@ fn sides_of_an_image() {
 #[test]
 fn coordinates() {
     assert_eq!(stroke(IMAGE_SIDE_MAX, 1, STROKE_COORDINATE_MAX), Ok(STROKE_ENTRIES_MAX));
-    assert_eq!(stroke(8, 8, STROKE_COORDINATE_MAX.next_up()), Err(Refusal::COORDINATE));
+    assert_eq!(stroke(8, 8, STROKE_COORDINATE_MAX.next_up()), Err(Refusal::COORDINATE.at(2)));
     assert!(tiles(TILE_COORDINATE_MAX, TILE_SIZE_MAX, 8, 8).is_ok());
     assert_eq!(tiles(TILE_COORDINATE_MAX.next_up(), 1, 8, 8), Err(Refusal::COORDINATE));
+    assert_eq!(tiles(f32::INFINITY, 1, 8, 8), Err(Refusal::COORDINATE));
+}
+
+/// Each of a stroke's four coordinates in turn; then what tells no place.
+#[test]
+fn places() {
+    let call = |[x0, y0, x1, y1]: [f32; 4], list: &mut [u32]| {
+        edge2::overlapping_pixels_dda(8, 8, [x0, y0].into(), [x1, y1].into(), list)
+    };
+    for place in 0..4 {
+        for (x, refusal) in [
+            (f32::NAN, Refusal::NOT_FINITE),
+            (f32::NEG_INFINITY, Refusal::NOT_FINITE),
+            (STROKE_COORDINATE_MAX.next_up(), Refusal::COORDINATE),
+            (-STROKE_COORDINATE_MAX.next_up(), Refusal::COORDINATE),
+        ] {
+            let mut ends = [0.5, 0.5, 3.5, 3.5];
+            ends[place] = x;
+            assert_eq!(call(ends, &mut [0; 9]), Err(refusal.at(place)));
+            ends[3] = f32::NAN;
+            assert_eq!(call(ends, &mut []).unwrap_err().place, Some(place));
+        }
+    }
+    assert_eq!(call([0.5; 4], &mut []), Err(Refusal::SAME_ENDS.into()));
+    assert_eq!(call([0.5, 0.5, 3.5, 3.5], &mut []), Err(Refusal::ROOM.into()));
 }
 
 #[test]
@@ -58,8 +83,11 @@ fn the_longest_hatch_list() {
     assert_eq!(longest.len(), HATCH_BYTES_MAX);
     let mut floats = vec![0.0; HATCH_FLOATS_MAX];
     assert_eq!(hatch::read_floats(&longest, &mut floats).unwrap().count, HATCH_RECORDS_MAX);
-    assert_eq!(hatch::read_floats(&longest, &mut floats[1..]), Err(Refusal::ROOM));
-    assert_eq!(hatch::read_floats(&longer, &mut floats), Err(Refusal::COUNT));
+    assert_eq!(
+        hatch::read_floats(&longest, &mut floats[1..]),
+        Err(Refusal::ROOM.at(HATCH_BYTES_MAX))
+    );
+    assert_eq!(hatch::read_floats(&longer, &mut floats), Err(Refusal::COUNT.at(5)));
 
     let mut out = vec![0; HATCH_REPORT_MAX + 1];
     let length = hatch::report(&longest, &mut out);

@@ -10,7 +10,8 @@ enum { GUARD = 16 };
 /* No routine lists more: every tile of the largest sheet. */
 static const uint64_t MOST_ENTRIES = UINT64_C(16384) * 16384;
 
-const size_t ask_sizes[3] = {sizeof(struct routine), sizeof(struct reply), sizeof(struct request)};
+const size_t ask_sizes[4] = {
+    sizeof(struct routine), sizeof(struct input), sizeof(struct reply), sizeof(struct request)};
 
 const struct routine *routine_named(const char *name) {
     for (size_t i = 0; i < routine_count; i++)
@@ -51,6 +52,17 @@ bool is_empty(const struct routine *routine, const struct answer *answer) {
     return true;
 }
 
+bool tells_place(const struct routine *routine, uint32_t status) {
+    return status <= last_refusal && (routine->places >> status & 1) != 0;
+}
+
+size_t entries_written(const struct routine *routine, const struct answer *answer) {
+    for (size_t i = 0; routine->gives[i] != '\0'; i++)
+        if (routine->gives[i] == 'l' || routine->gives[i] == 'e')
+            return answer->values[i].u * (routine->gives[i] == 'e' ? 8 : 1);
+    return 0;
+}
+
 /* The floats that are no list's, and the place of the first room among the whole numbers. */
 static size_t single_floats(const char *takes) {
     size_t count = 0;
@@ -67,30 +79,36 @@ static size_t place_of_room(const char *takes) {
 }
 
 /*
- * The length of the list to lend. A room for more than the routine can write is cut: it writes at most an entry a float
- * that it reads.
+ * The length of the list to lend. A room for more than the routine can write is cut: it writes at most an entry a float or
+ * a byte that it reads.
  */
-static size_t lent_length(const struct routine *routine, size_t float_count, uint64_t room) {
-    uint64_t most = strchr(routine->lists, 'F') != NULL ? float_count : MOST_ENTRIES;
+static size_t lent_length(const struct routine *routine, const struct input *input) {
+    bool reads = strpbrk(routine->lists, "FB") != NULL;
+    uint64_t most = reads ? input->float_count + input->byte_count : MOST_ENTRIES;
+    uint64_t room = input->wholes[place_of_room(routine->takes)];
     return room < most ? room : most;
 }
 
-struct reply ask(const struct routine *routine, const float *floats, size_t float_count, const uint64_t *wholes) {
-    struct arguments in = {.floats = floats, .wholes = wholes};
+struct reply ask(const struct routine *routine, const struct input *input) {
+    struct arguments in = {.floats = input->floats, .wholes = input->wholes};
     struct reply reply = {.list = NULL};
     for (size_t i = 0; routine->lists[i] != '\0'; i++) {
         if (routine->lists[i] == 'F') {
             size_t single = single_floats(routine->takes);
-            in.lists[i] = (struct list){(void *)(floats + single), float_count - single};
+            in.lists[i] = (struct list){input->floats + single, input->float_count - single};
+        } else if (routine->lists[i] == 'B') {
+            in.lists[i] = (struct list){input->bytes, input->byte_count};
         } else {
-            in.lists[i].length = lent_length(routine, float_count, wholes[place_of_room(routine->takes)]);
+            in.lists[i].length = lent_length(routine, input);
             in.lists[i].start = reply.list = lend(in.lists[i].length);
         }
     }
     routine->call(&in, &reply.answer);
-    bool answered = reply.answer.status == BGZ_ANSWERED;
-    reply.damaged = !answered && !is_empty(routine, &reply.answer);
+    const struct answer *answer = &reply.answer;
+    bool answered = answer->status == BGZ_ANSWERED;
+    reply.damaged = !answered && !is_empty(routine, answer);
+    reply.damaged |= answer->place != 0 && !tells_place(routine, answer->status);
     if (reply.list != NULL)
-        reply.damaged |= is_damaged(reply.list, answered ? reply.answer.values[0].u : 0, in.lists[0].length);
+        reply.damaged |= is_damaged(reply.list, answered ? entries_written(routine, answer) : 0, in.lists[0].length);
     return reply;
 }

@@ -21,6 +21,11 @@ static void refused(const struct arguments *in, struct answer *out) {
     out->values[0].u = 0;
 }
 
+static void refused_at(const struct arguments *in, struct answer *out) {
+    refused(in, out);
+    out->place = 2;
+}
+
 static void written_and_refused(const struct arguments *in, struct answer *out) {
     two(in, out);
     refused(in, out);
@@ -34,6 +39,17 @@ static void told_too_many(const struct arguments *in, struct answer *out) {
 static void told_and_refused(const struct arguments *in, struct answer *out) {
     refused(in, out);
     out->values[0].u = 1;
+}
+
+/* With the other refusal's place. */
+static void place_not_told(const struct arguments *in, struct answer *out) {
+    refused_at(in, out);
+    out->status = 4;
+}
+
+static void place_of_an_answer(const struct arguments *in, struct answer *out) {
+    two(in, out);
+    out->place = 2;
 }
 
 static void unknown_status(const struct arguments *in, struct answer *out) {
@@ -55,15 +71,19 @@ static void changing(const struct arguments *in, struct answer *out) {
     out->status = 1 + __sync_fetch_and_add(&calls, 1) % last_refusal;
 }
 
-#define ROW(name) {#name, #name, name, "r", "u", "l", "room"}
+/* Refusal 3 tells a place. */
+#define ROW(name) {#name, #name, name, "r", "u", "l", "room", UINT32_C(1) << 3}
 
 const struct routine routines[] = {
     ROW(two),
     ROW(one_more),
     ROW(refused),
+    ROW(refused_at),
     ROW(written_and_refused),
     ROW(told_too_many),
     ROW(told_and_refused),
+    ROW(place_not_told),
+    ROW(place_of_an_answer),
     ROW(unknown_status),
     ROW(endless),
     ROW(changing),

@@ -6,28 +6,33 @@
 #include <string.h>
 
 static const char HELP[] =
-    "usage: ./ask [--decimal]                one request a line on standard input, one answer a line on standard output\n"
-    "       ./ask [--decimal] NAME NUMBER..  one request\n"
-    "       ./ask --list                     the names, each with its numbers\n"
+    "usage: ./ask [--decimal]               one request a line on standard input, one answer a line on standard output\n"
+    "       ./ask [--decimal] NAME FIELD..  one request\n"
+    "       ./ask --list                    the names, each with its fields\n"
     "\n"
-    "A request is a routine's name and its numbers, one space apart.\n"
+    "A request is a routine's name and its fields, one space apart.\n"
     "  float         eight hexadecimal digits of its bits, 3fc00000, or a decimal: 1.5, -0.25, 1e9, 12. Digits alone\n"
     "                are a decimal if there are at most six, and bits if there are eight; 1048576 is written 1048576.0.\n"
     "                Infinity and NaN are given as bits: 7f800000, 7fc00000.\n"
     "  whole number  decimal; marked :u in the list. A room is the length of the list that is lent to the routine.\n"
     "  list          any number of floats; marked :f* in the list.\n"
+    "  bytes         one word, two hexadecimal digits a byte, - for none; marked :b in the list.\n"
     "A point is x y; a range low high; an upright box min_x min_y max_x max_y; a turned box its centre cx cy and two\n"
     "half edges ux uy vx vy; a matrix nine numbers, column by column.\n"
     "\n"
     "An answer is floats as bits, any zero as 00000000 and any NaN as nan, or as decimals with --decimal; whole numbers;\n"
-    "1 for yes and 0 for no; a list as its count and its entries; none; 'refused N', by the numbers of bagnoszyk.h;\n"
-    "'damaged' if a lent list was touched where it should not have been. What is no request is answered 'bad request',\n"
-    "and standard error says why.\n"
+    "1 for yes and 0 for no; a list as its count and its entries; none; 'refused N', by the numbers of bagnoszyk.h, with\n"
+    "the place after it where the refusal tells one; 'damaged' if a lent list was touched where it should not have been.\n"
+    "hatch.read answers the version of a hatch list and the bits of its floats, eight a record, as they are; and\n"
+    "hatch.read_floats the version and the floats.\n"
+    "What is no request is answered 'bad request', and standard error says why.\n"
     "\n"
     "Exit status: 0; 1 if a request given as arguments is bad, or reading or writing fails.\n"
     "\n"
-    "  ./ask --decimal aabb.line 0 0 4 2 6 -1 -1 1                answers: 2 3\n"
-    "  ./ask --decimal aabb.lines 0 0 4 2 6 6 -1 -1 1 6 -1 1 1    answers: 6 1 2 3 0 0 0, with room for six\n";
+    "  ./ask --decimal aabb.line 0 0 4 2 6 -1 -1 1                        answers: 2 3\n"
+    "  ./ask --decimal aabb.lines 0 0 4 2 6 6 -1 -1 1 6 -1 1 1            answers: 6 1 2 3 0 0 0, with room for six\n"
+    "  ./ask edge2.overlapping_pixels_dda 8 8 0.5 0.5 7fc00000 0.5 9      answers: refused 15 2\n"
+    "  ./ask hatch.read 8 48534c02000000                                  answers: refused 11 3\n";
 
 /* Ends the program after a call that failed. */
 static void fail(const char *what) {
@@ -51,7 +56,8 @@ static void print_list(void) {
         const char *field = r->fields;
         for (const char *letter = r->takes; *letter != '\0'; letter++) {
             int length = (int)strcspn(field, " ");
-            printf(" %.*s%s", length, field, *letter == 'f' ? "" : *letter == 'F' ? ":f*" : ":u");
+            const char *mark = *letter == 'f' ? "" : *letter == 'F' ? ":f*" : *letter == 'B' ? ":b" : ":u";
+            printf(" %.*s%s", length, field, mark);
             field += length + 1;
         }
         printf("\n");
@@ -69,7 +75,7 @@ static bool answer(char *line, bool decimal) {
     struct request request;
     bool good = read_request(line, &request);
     if (good) {
-        struct reply reply = ask(request.routine, request.floats, request.float_count, request.wholes);
+        struct reply reply = ask(request.routine, &request.input);
         char *text = reply_text(request.routine, &reply, decimal);
         print_answer(text);
         free(text);
@@ -80,7 +86,7 @@ static bool answer(char *line, bool decimal) {
         say(request.reason);
         fputs("\n", stderr);
     }
-    free(request.floats);
+    free_request(&request);
     return good;
 }
 

@@ -210,6 +210,7 @@ static void edge2_overlapping_pixels_dda(const struct arguments *in, struct answ
     bgz_count_answer r = bgz_edge2_overlapping_pixels_dda(
         u[0], u[1], (bgz_vec2){f[0], f[1]}, (bgz_vec2){f[2], f[3]}, in->lists[0].start, in->lists[0].length);
     out->status = r.status;
+    out->place = r.place;
     out->values[0].u = r.count;
 }
 
@@ -237,6 +238,7 @@ static void aabb_intersections_against_lines(const struct arguments *in, struct 
         (bgz_aabb2){f[0], f[1], f[2], f[3]}, in->lists[1].start, in->lists[1].length,
         in->lists[0].start, in->lists[0].length);
     out->status = r.status;
+    out->place = r.place;
     out->values[0].u = r.count;
 }
 
@@ -402,6 +404,7 @@ static void aabb2_overlapping_tiles(const struct arguments *in, struct answer *o
     bgz_count_answer r = bgz_aabb2_overlapping_tiles(
         (bgz_aabb2){f[0], f[1], f[2], f[3]}, u[0], u[1], u[2], in->lists[0].start, in->lists[0].length);
     out->status = r.status;
+    out->place = r.place;
     out->values[0].u = r.count;
 }
 
@@ -493,6 +496,7 @@ static void hatch_read_floats(const struct arguments *in, struct answer *out) {
     bgz_read_answer r = bgz_hatch_read_floats(
         in->lists[1].start, in->lists[1].length, in->lists[0].start, in->lists[0].length);
     out->status = r.status;
+    out->place = r.place;
     out->values[0].u = r.version;
     out->values[1].u = r.count;
 }
@@ -501,6 +505,7 @@ static void hatch_read_patterns(const struct arguments *in, struct answer *out) 
     bgz_read_answer r = bgz_hatch_read_patterns(
         in->lists[1].start, in->lists[1].length, in->lists[0].start, in->lists[0].length);
     out->status = r.status;
+    out->place = r.place;
     out->values[0].u = r.version;
     out->values[1].u = r.count;
 }
@@ -518,134 +523,135 @@ static void hatch_report(const struct arguments *in, struct answer *out) {
 }
 
 #define CALL(name) "bgz_" #name, name
+#define AT(name) (UINT32_C(1) << BGZ_REFUSED_##name)
 
 const struct routine routines[] = {
     {"f32.abs", CALL(f32_abs), "f", "", "f",
-     "x"},
+     "x", 0},
     {"f32.min", CALL(f32_min), "ff", "", "f",
-     "a b"},
+     "a b", 0},
     {"f32.max", CALL(f32_max), "ff", "", "f",
-     "a b"},
+     "a b", 0},
     {"f32.clamp", CALL(f32_clamp), "fff", "", "f",
-     "x low high"},
+     "x low high", 0},
     {"f32.floor", CALL(f32_floor), "f", "", "f",
-     "x"},
+     "x", 0},
     {"f32.ceil", CALL(f32_ceil), "f", "", "f",
-     "x"},
+     "x", 0},
     {"f32.to_i32", CALL(f32_to_i32), "f", "", "i",
-     "x"},
+     "x", 0},
     {"f32.to_u32", CALL(f32_to_u32), "f", "", "u",
-     "x"},
+     "x", 0},
     {"f32.to_usize", CALL(f32_to_usize), "f", "", "u",
-     "x"},
+     "x", 0},
     {"f32.sqrt", CALL(f32_sqrt), "f", "", "f",
-     "x"},
+     "x", 0},
     {"range.distance_to_range", CALL(range_distance_to_range), "ffff", "", "f",
-     "a.low a.high b.low b.high"},
+     "a.low a.high b.low b.high", 0},
     {"range.intersection_length", CALL(range_intersection_length), "ffff", "", "f",
-     "a.low a.high b.low b.high"},
+     "a.low a.high b.low b.high", 0},
     {"vec2.sub", CALL(vec2_sub), "ffff", "", "ff",
-     "a.x a.y b.x b.y"},
+     "a.x a.y b.x b.y", 0},
     {"vec2.dot", CALL(vec2_dot), "ffff", "", "f",
-     "a.x a.y b.x b.y"},
+     "a.x a.y b.x b.y", 0},
     {"vec2.squared_length", CALL(vec2_squared_length), "ff", "", "f",
-     "p.x p.y"},
+     "p.x p.y", 0},
     {"vec2.length", CALL(vec2_length), "ff", "", "f",
-     "p.x p.y"},
+     "p.x p.y", 0},
     {"mat3.transform_homogeneous", CALL(mat3_transform_homogeneous), "fffffffffff", "", "ff",
-     "m.m00 m.m10 m.m20 m.m01 m.m11 m.m21 m.m02 m.m12 m.m22 p.x p.y"},
+     "m.m00 m.m10 m.m20 m.m01 m.m11 m.m21 m.m02 m.m12 m.m22 p.x p.y", 0},
     {"edge2.length", CALL(edge2_length), "ffff", "", "f",
-     "s.x s.y e.x e.y"},
+     "s.x s.y e.x e.y", 0},
     {"edge2.squared_length", CALL(edge2_squared_length), "ffff", "", "f",
-     "s.x s.y e.x e.y"},
+     "s.x s.y e.x e.y", 0},
     {"edge2.unit_edge_vector", CALL(edge2_unit_edge_vector), "ffff", "", "ff",
-     "s.x s.y e.x e.y"},
+     "s.x s.y e.x e.y", 0},
     {"edge2.position_from_ratio", CALL(edge2_position_from_ratio), "fffff", "", "ff",
-     "p0.x p0.y p1.x p1.y ratio"},
+     "p0.x p0.y p1.x p1.y ratio", 0},
     {"edge2.ratio_from_position", CALL(edge2_ratio_from_position), "ffffff", "", "f",
-     "ps.x ps.y pe.x pe.y q.x q.y"},
+     "ps.x ps.y pe.x pe.y q.x q.y", 0},
     {"edge2.culling_intersection", CALL(edge2_culling_intersection), "ffffffff", "", "u",
-     "s0.x s0.y e0.x e0.y s1.x s1.y e1.x e1.y"},
+     "s0.x s0.y e0.x e0.y s1.x s1.y e1.x e1.y", 0},
     {"edge2.nearest_origin", CALL(edge2_nearest_origin), "ffff", "", "fff",
-     "s.x s.y e.x e.y"},
+     "s.x s.y e.x e.y", 0},
     {"edge2.nearest_to_point", CALL(edge2_nearest_to_point), "ffffff", "", "fff",
-     "s.x s.y e.x e.y p.x p.y"},
+     "s.x s.y e.x e.y p.x p.y", 0},
     {"edge2.intersection_length_against_aabb2", CALL(edge2_intersection_length_against_aabb2), "ffffffff", "", "f",
-     "s.x s.y e.x e.y b.min_x b.min_y b.max_x b.max_y"},
+     "s.x s.y e.x e.y b.min_x b.min_y b.max_x b.max_y", 0},
     {"edge2.ink", CALL(edge2_ink), "ffffffff", "", "f",
-     "s.x s.y e.x e.y b.min_x b.min_y b.max_x b.max_y"},
+     "s.x s.y e.x e.y b.min_x b.min_y b.max_x b.max_y", 0},
     {"edge2.overlapping_pixels_dda", CALL(edge2_overlapping_pixels_dda), "uuffffr", "u", "l",
-     "width height p0.x p0.y p1.x p1.y room"},
+     "width height p0.x p0.y p1.x p1.y room", AT(COORDINATE) | AT(NOT_FINITE)},
     {"aabb.line", CALL(aabb_intersections_against_line), "ffffffff", "", "ff",
-     "b.min_x b.min_y b.max_x b.max_y origin.x origin.y direction.x direction.y"},
+     "b.min_x b.min_y b.max_x b.max_y origin.x origin.y direction.x direction.y", 0},
     {"aabb.ray", CALL(aabb_intersections_against_ray), "ffffffff", "", "ff",
-     "b.min_x b.min_y b.max_x b.max_y origin.x origin.y direction.x direction.y"},
+     "b.min_x b.min_y b.max_x b.max_y origin.x origin.y direction.x direction.y", 0},
     {"aabb.lines", CALL(aabb_intersections_against_lines), "ffffrF", "fF", "l",
-     "b.min_x b.min_y b.max_x b.max_y room lines"},
+     "b.min_x b.min_y b.max_x b.max_y room lines", 0},
     {"aabb.include", CALL(aabb_is_include_point), "ffffff", "", "u",
-     "b.min_x b.min_y b.max_x b.max_y p.x p.y"},
+     "b.min_x b.min_y b.max_x b.max_y p.x p.y", 0},
     {"aabb.center", CALL(aabb_center), "ffff", "", "ff",
-     "b.min_x b.min_y b.max_x b.max_y"},
+     "b.min_x b.min_y b.max_x b.max_y", 0},
     {"aabb2.from_point", CALL(aabb2_from_point), "fff", "", "ffff",
-     "p.x p.y radius"},
+     "p.x p.y radius", 0},
     {"aabb2.from_two_points", CALL(aabb2_from_two_points), "fffff", "", "ffff",
-     "p.x p.y q.x q.y radius"},
+     "p.x p.y q.x q.y radius", 0},
     {"aabb2.from_two_aabbs", CALL(aabb2_from_two_aabbs), "ffffffff", "", "ffff",
-     "a.min_x a.min_y a.max_x a.max_y b.min_x b.min_y b.max_x b.max_y"},
+     "a.min_x a.min_y a.max_x a.max_y b.min_x b.min_y b.max_x b.max_y", 0},
     {"aabb2.add_point", CALL(aabb2_add_point), "fffffff", "", "ffff",
-     "b.min_x b.min_y b.max_x b.max_y p.x p.y radius"},
+     "b.min_x b.min_y b.max_x b.max_y p.x p.y radius", 0},
     {"aabb2.rasterize", CALL(aabb2_rasterize), "ffffuu", "", "uuuu",
-     "b.min_x b.min_y b.max_x b.max_y width height"},
+     "b.min_x b.min_y b.max_x b.max_y width height", 0},
     {"aabb2.center", CALL(aabb2_center), "ffff", "", "ff",
-     "b.min_x b.min_y b.max_x b.max_y"},
+     "b.min_x b.min_y b.max_x b.max_y", 0},
     {"aabb2.max_edge_size", CALL(aabb2_max_edge_size), "ffff", "", "f",
-     "b.min_x b.min_y b.max_x b.max_y"},
+     "b.min_x b.min_y b.max_x b.max_y", 0},
     {"aabb2.transform_homogeneous", CALL(aabb2_transform_homogeneous), "fffffffffffff", "", "ffff",
-     "b.min_x b.min_y b.max_x b.max_y m.m00 m.m10 m.m20 m.m01 m.m11 m.m21 m.m02 m.m12 m.m22"},
+     "b.min_x b.min_y b.max_x b.max_y m.m00 m.m10 m.m20 m.m01 m.m11 m.m21 m.m02 m.m12 m.m22", 0},
     {"aabb2.to_transformation_world2unit_ortho_preserve_asp", CALL(aabb2_to_transformation_world2unit_ortho_preserve_asp), "ffff", "", "fffffffff",
-     "b.min_x b.min_y b.max_x b.max_y"},
+     "b.min_x b.min_y b.max_x b.max_y", 0},
     {"aabb2.is_include_point2", CALL(aabb2_is_include_point2), "ffffff", "", "u",
-     "b.min_x b.min_y b.max_x b.max_y p.x p.y"},
+     "b.min_x b.min_y b.max_x b.max_y p.x p.y", 0},
     {"aabb2.is_intersect_square", CALL(aabb2_is_intersect_square), "fffffff", "", "u",
-     "b.min_x b.min_y b.max_x b.max_y p.x p.y radius"},
+     "b.min_x b.min_y b.max_x b.max_y p.x p.y radius", 0},
     {"aabb2.nearest_point2", CALL(aabb2_nearest_point2), "ffffff", "", "ff",
-     "b.min_x b.min_y b.max_x b.max_y p.x p.y"},
+     "b.min_x b.min_y b.max_x b.max_y p.x p.y", 0},
     {"aabb2.sdf", CALL(aabb2_sdf), "ffffff", "", "f",
-     "b.min_x b.min_y b.max_x b.max_y p.x p.y"},
+     "b.min_x b.min_y b.max_x b.max_y p.x p.y", 0},
     {"aabb2.scale", CALL(aabb2_scale), "fffff", "", "ffff",
-     "b.min_x b.min_y b.max_x b.max_y s"},
+     "b.min_x b.min_y b.max_x b.max_y s", 0},
     {"aabb2.translate", CALL(aabb2_translate), "ffffff", "", "ffff",
-     "b.min_x b.min_y b.max_x b.max_y t.x t.y"},
+     "b.min_x b.min_y b.max_x b.max_y t.x t.y", 0},
     {"aabb2.overlapping_tiles", CALL(aabb2_overlapping_tiles), "ffffuuur", "u", "l",
-     "b.min_x b.min_y b.max_x b.max_y size shape_width shape_height room"},
+     "b.min_x b.min_y b.max_x b.max_y size shape_width shape_height room", 0},
     {"aabb2.count", CALL(aabb2_count), "F", "F", "u",
-     "all"},
+     "all", 0},
     {"aabb2.from_aabbs", CALL(aabb2_from_aabbs), "uF", "F", "ffff",
-     "index all"},
+     "index all", 0},
     {"aabb2.from_slice", CALL(aabb2_from_slice), "F", "F", "ffff",
-     "s"},
+     "s", 0},
     {"aabb2.add_point_lent", CALL(aabb2_add_point_lent), "fffffff", "", "ffff",
-     "b.min_x b.min_y b.max_x b.max_y p.x p.y radius"},
+     "b.min_x b.min_y b.max_x b.max_y p.x p.y radius", 0},
     {"obb2.corner_points", CALL(obb2_corner_points), "ffffff", "", "ffffffff",
-     "o.cx o.cy o.ux o.uy o.vx o.vy"},
+     "o.cx o.cy o.ux o.uy o.vx o.vy", 0},
     {"obb2.is_include_point2", CALL(obb2_is_include_point2), "ffffffff", "", "u",
-     "o.cx o.cy o.ux o.uy o.vx o.vy p.x p.y"},
+     "o.cx o.cy o.ux o.uy o.vx o.vy p.x p.y", 0},
     {"obb2.nearest_point2", CALL(obb2_nearest_point2), "ffffffff", "", "ff",
-     "o.cx o.cy o.ux o.uy o.vx o.vy p.x p.y"},
+     "o.cx o.cy o.ux o.uy o.vx o.vy p.x p.y", 0},
     {"obb2.is_intersect_obb2", CALL(obb2_is_intersect_obb2), "ffffffffffff", "", "u",
-     "a.cx a.cy a.ux a.uy a.vx a.vy b.cx b.cy b.ux b.uy b.vx b.vy"},
+     "a.cx a.cy a.ux a.uy a.vx a.vy b.cx b.cy b.ux b.uy b.vx b.vy", 0},
     {"obb2.is_intersect_aabb2", CALL(obb2_is_intersect_aabb2), "ffffffffff", "", "u",
-     "o.cx o.cy o.ux o.uy o.vx o.vy b.min_x b.min_y b.max_x b.max_y"},
-    {NULL, CALL(hatch_read_floats), "rB", "fB", "uu",
-     "room bytes"},
-    {NULL, CALL(hatch_read_patterns), "rB", "uB", "uu",
-     "room bytes"},
+     "o.cx o.cy o.ux o.uy o.vx o.vy b.min_x b.min_y b.max_x b.max_y", 0},
+    {"hatch.read_floats", CALL(hatch_read_floats), "rB", "fB", "ue",
+     "room bytes", AT(ROOM) | AT(MARK) | AT(VERSION) | AT(COUNT) | AT(LENGTH)},
+    {"hatch.read", CALL(hatch_read_patterns), "rB", "pB", "ue",
+     "room bytes", AT(ROOM) | AT(MARK) | AT(VERSION) | AT(COUNT) | AT(LENGTH)},
     {"hatch.record_count", CALL(hatch_record_count), "F", "F", "u",
-     "floats"},
+     "floats", 0},
     {NULL, CALL(hatch_report), "rB", "bB", "u",
-     "room bytes"},
+     "room bytes", 0},
 };
 
 const size_t routine_count = sizeof routines / sizeof routines[0];
 
-const uint32_t last_refusal = 14;
+const uint32_t last_refusal = 15;

@@ -31,9 +31,10 @@ union value {
     int64_t i;
 };
 
-/* The status is that of bagnoszyk.h; a routine that has none answers always. */
+/* Status and place are those of bagnoszyk.h. A routine that has no status answers always; one with no place leaves the 0. */
 struct answer {
     uint32_t status;
+    uint64_t place;
     union value values[MOST_VALUES];
 };
 
@@ -48,12 +49,20 @@ struct routine {
      * of no fixed length stand last.
      */
     const char *takes;
-    /* The lists among them: u (uint32_t), f (float) and b (uint8_t) are written to, F and B are read. */
+    /*
+     * The lists among them: u (uint32_t), p (uint32_t, the bits of a float), f (float) and b (uint8_t) are written to, F
+     * and B are read.
+     */
     const char *lists;
-    /* What an answer has: f is a float, u a whole number, i one with a sign, l what was written to the first list. */
+    /*
+     * What an answer has: f is a float, u a whole number, i one with a sign, l the count of entries that were written to
+     * the first list, e that of records there, eight entries each.
+     */
     const char *gives;
     /* A name for each letter of `takes`, one space apart. */
     const char *fields;
+    /* The refusals that tell a place, each by the bit of its number. */
+    uint32_t places;
 };
 
 extern const struct routine routines[];

@@ -34,6 +34,8 @@ static const char *read_float(const char *field, float *x) {
     /* With these characters strtof reads decimals alone, and rounds them to the nearest float. */
     char *end;
     *x = strtof(field, &end);
+    if (strpbrk(field, "nN") != NULL)
+        return "no float: infinity and NaN are given as bits, 7f800000 and 7fc00000";
     if (!has_only(field, DIGITS ".eE+-") || field[0] == '+' || *end != '\0')
         return NO_FLOAT;
     return isfinite(*x) ? NULL : "too large for an f32";
@@ -44,6 +46,22 @@ static const char *read_whole(const char *field, uint64_t *n) {
     errno = 0;
     *n = strtoull(field, NULL, 10);
     return has_only(field, DIGITS) && errno == 0 ? NULL : "no whole number of 64 bits";
+}
+
+/* Null, or what the field is instead of bytes. */
+static const char *read_bytes(const char *field, uint8_t *bytes, size_t *count) {
+    if (strcmp(field, "-") == 0)
+        return NULL;
+    size_t length = strlen(field);
+    if (!has_only(field, HEX_DIGITS))
+        return "no bytes: they are hexadecimal digits, or - for none";
+    if (length % 2 != 0)
+        return "no bytes: they are two digits each, and these are odd in number";
+    for (; *count < length / 2; ++*count) {
+        char digits[] = {field[2 * *count], field[2 * *count + 1], '\0'};
+        bytes[*count] = (uint8_t)strtoul(digits, NULL, 16);
+    }
+    return NULL;
 }
 
 /* The shortest decimal that reads back as the same float: nine digits tell every float from its neighbours. */
@@ -105,28 +123,31 @@ static bool right_count(struct request *request, size_t given) {
     bool list = routine->takes[single] == 'F';
     if (given == single || (list && given > single))
         return true;
-    snprintf(request->reason, sizeof request->reason, "%s takes %zu number%s%s, %zu given", routine->name, single,
+    snprintf(request->reason, sizeof request->reason, "%s takes %zu field%s%s, %zu given", routine->name, single,
              single == 1 ? "" : "s", list ? " and a list" : "", given);
     return false;
 }
 
 /* Null, or what the field is instead of what it should be. */
-static const char *read_field(struct request *request, char letter, const char *field, size_t *whole_count) {
+static const char *read_field(struct input *input, char letter, const char *field, size_t *whole_count) {
     if (letter == 'f' || letter == 'F')
-        return read_float(field, &request->floats[request->float_count++]);
-    return read_whole(field, &request->wholes[(*whole_count)++]);
+        return read_float(field, &input->floats[input->float_count++]);
+    if (letter == 'B')
+        return read_bytes(field, input->bytes, &input->byte_count);
+    return read_whole(field, &input->wholes[(*whole_count)++]);
 }
 
 static bool read_fields(struct request *request, char *rest) {
     const char *takes = request->routine->takes;
     size_t place = 0, whole_count = 0;
     for (char *field; (field = next_field(&rest)) != NULL;) {
-        const char *wrong = read_field(request, takes[place], field, &whole_count);
+        const char *wrong = read_field(&request->input, takes[place], field, &whole_count);
         if (wrong != NULL) {
             int length;
             const char *name = field_name(request->routine, place, &length);
-            snprintf(request->reason, sizeof request->reason, "%s: %.*s is '%.40s', which is %s", request->routine->name,
-                     length, name, field, wrong);
+            const char *cut = strlen(field) > 40 ? ".." : "";
+            snprintf(request->reason, sizeof request->reason, "%s: %.*s is '%.40s'%s, which is %s",
+                     request->routine->name, length, name, field, cut, wrong);
             return false;
         }
         /* A list goes on to the end. */
@@ -160,8 +181,14 @@ bool read_request(char *line, struct request *request) {
     }
     if (!right_count(request, count_fields(rest)))
         return false;
-    request->floats = calloc(most + 1, sizeof *request->floats);
-    return request->floats != NULL && read_fields(request, rest);
+    request->input.floats = calloc(most + 1, sizeof *request->input.floats);
+    request->input.bytes = calloc(most + 1, sizeof *request->input.bytes);
+    return request->input.floats != NULL && request->input.bytes != NULL && read_fields(request, rest);
+}
+
+void free_request(struct request *request) {
+    free(request->input.floats);
+    free(request->input.bytes);
 }
 
 /* ---- as text */
@@ -176,15 +203,24 @@ static FILE *open_text(char **text, size_t *length) {
     return out;
 }
 
-char *request_text(const struct routine *routine, const float *floats, size_t float_count, const uint64_t *wholes) {
+static void write_bytes(FILE *out, const uint8_t *bytes, size_t count) {
+    fputs(count == 0 ? " -" : " ", out);
+    for (size_t i = 0; i < count; i++)
+        fprintf(out, "%02x", bytes[i]);
+}
+
+char *request_text(const struct routine *routine, const struct input *input) {
     char *text;
     size_t length;
     FILE *out = open_text(&text, &length);
-    const float *end = floats + float_count;
+    const float *floats = input->floats, *end = floats + input->float_count;
+    const uint64_t *wholes = input->wholes;
     fputs(routine->name, out);
     for (const char *letter = routine->takes; *letter != '\0'; letter++) {
         if (*letter == 'u' || *letter == 'r')
             fprintf(out, " %" PRIu64, *wholes++);
+        else if (*letter == 'B')
+            write_bytes(out, input->bytes, input->byte_count);
         for (bool more = *letter == 'f' || *letter == 'F'; more && floats < end; more = *letter == 'F') {
             uint32_t bits;
             memcpy(&bits, floats++, sizeof bits);
@@ -204,13 +240,26 @@ static void write_value(FILE *out, char letter, union value value, bool decimal)
         fprintf(out, "%" PRIu64, value.u);
 }
 
-static void write_entries(FILE *out, bool floats, const uint32_t *list, uint64_t count, bool decimal) {
-    for (uint64_t i = 0; i < count; i++) {
+/* Entries of a list by its letter, each after a space. */
+static void write_entries(FILE *out, char letter, const uint32_t *list, size_t count, bool decimal) {
+    for (size_t i = 0; i < count; i++) {
         fputs(" ", out);
-        if (floats)
+        if (letter == 'f')
             write_float(out, ((const float *)list)[i], decimal);
         else
-            fprintf(out, "%" PRIu32, list[i]);
+            fprintf(out, letter == 'p' ? "%08" PRIx32 : "%" PRIu32, list[i]);
+    }
+}
+
+static void write_answer(FILE *out, const struct routine *routine, const struct reply *reply, bool decimal) {
+    for (size_t i = 0; routine->gives[i] != '\0'; i++) {
+        fputs(i == 0 ? "" : " ", out);
+        if (routine->gives[i] == 'l' || routine->gives[i] == 'e') {
+            size_t count = entries_written(routine, &reply->answer);
+            fprintf(out, "%zu", count);
+            write_entries(out, routine->lists[0], reply->list, count, decimal);
+        } else
+            write_value(out, routine->gives[i], reply->answer.values[i], decimal);
     }
 }
 
@@ -218,19 +267,17 @@ char *reply_text(const struct routine *routine, const struct reply *reply, bool 
     char *text;
     size_t length;
     FILE *out = open_text(&text, &length);
+    uint32_t status = reply->answer.status;
     if (reply->damaged)
         fputs("damaged", out);
-    else if (reply->answer.status == BGZ_NONE)
+    else if (status == BGZ_NONE)
         fputs("none", out);
-    else if (reply->answer.status != BGZ_ANSWERED)
-        fprintf(out, "refused %" PRIu32, reply->answer.status);
+    else if (status == BGZ_ANSWERED)
+        write_answer(out, routine, reply, decimal);
     else
-        for (size_t i = 0; routine->gives[i] != '\0'; i++) {
-            fputs(i == 0 ? "" : " ", out);
-            write_value(out, routine->gives[i], reply->answer.values[i], decimal);
-            if (routine->gives[i] == 'l')
-                write_entries(out, routine->lists[0] == 'f', reply->list, reply->answer.values[i].u, decimal);
-        }
+        fprintf(out, "refused %" PRIu32, status);
+    if (!reply->damaged && tells_place(routine, status))
+        fprintf(out, " %" PRIu64, reply->answer.place);
     fclose(out);
     return text;
 }

@@ -36,6 +36,8 @@ def paragraphs(comment):
     yield from comment.text
     if comment.refused:
         yield f"Refused: {comment.refused}"
+    if comment.place:
+        yield f"Place: {comment.place}"
     if comment.example:
         yield f"Example: {comment.example}"
 

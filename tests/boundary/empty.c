@@ -34,7 +34,7 @@ int main(void) {
     expect("floats", bgz_hatch_read_floats(none, sizeof none, NULL, 0).status, BGZ_ANSWERED);
     expect("patterns", bgz_hatch_read_patterns(none, sizeof none, NULL, 0).status, BGZ_ANSWERED);
     expect("records", (uint32_t)bgz_hatch_record_count(NULL, 0), 0);
-    expect("report", (uint32_t)bgz_hatch_report(NULL, 0, NULL, 0), sizeof "refused 10\n" - 1);
+    expect("report", (uint32_t)bgz_hatch_report(NULL, 0, NULL, 0), sizeof "refused 10 0\n" - 1);
 
     if (strcmp(bgz_refusal_text(BGZ_REFUSED_SAME_ENDS), "both ends of a stroke are equal") != 0)
         failed = 1;

@@ -3,9 +3,9 @@
 `read()` gives them in the order in which the header declares them: modules as crates.txt lists their crates, functions as written. A form
 that this module does not read is an error, so nothing that is exported can be left out.
 
-A comment is text, in which code stands in backticks, a refusal or a limit by its name, as `ROOM`, and a function as `module::name`. Three
-kinds of paragraphs begin with a word of their own and stand last: `Refused: ` the conditions in the order in which they are tested, `Example: `
-arguments and what they give, `Writes` what is left in lent lists.
+A comment is text, in which code stands in backticks, a refusal or a limit by its name, as `ROOM`, and a function as `module::name`. Four
+kinds of paragraphs begin with a word of their own and stand last: `Writes` what is left in lent lists, `Refused: ` the conditions in the
+order in which they are tested, `Place: ` what the refusals that it names tell beside their numbers, `Example: ` arguments and what they give.
 """
 
 import dataclasses
@@ -43,6 +43,7 @@ class Type:
 class Comment:
     text: tuple  # paragraphs
     refused: str = ""
+    place: str = ""
     example: str = ""
 
 
@@ -67,8 +68,8 @@ class Struct:
 
     @property
     def answered(self):
-        """The fields of an answer but its status."""
-        return self.fields[1:]
+        """The fields of an answer but its status and the place of a refusal."""
+        return tuple(f for f in self.fields if f.name not in ("status", "place"))
 
 
 @dataclasses.dataclass(frozen=True)
@@ -98,10 +99,11 @@ class Refusal:
 
 @dataclasses.dataclass(frozen=True)
 class Enum:
-    """What an answer can be beside what was asked for: none of it, or a refusal."""
+    """What an answer can be beside what was asked for: none of it, a refusal without a place, one with a place."""
 
     none: bool
     refused: bool
+    placed: bool
 
 
 @dataclasses.dataclass(frozen=True)
@@ -112,9 +114,20 @@ class Model:
     enums: dict
     modules: dict  # the comment on each
 
+    def enum(self, function):
+        return self.enums[function.enum] if function.enum else Enum(False, False, False)
+
     def kind(self, function):
-        """What the contract says of a function's answer."""
-        return self.enums[function.enum] if function.enum else Enum(False, False)
+        """What the contract and the comment say of a function's answer: refused in any way, and perhaps with a place."""
+        enum = self.enum(function)
+        return Enum(enum.none, enum.refused or enum.placed, bool(self.places(function)))
+
+    def places(self, function):
+        """The refusals of a function that tell a place."""
+        other = re.fullmatch(r"that of `(\w+)::(\w+)`\.", function.comment.place)
+        if other:
+            return self.places(next(f for f in self.functions if (f.module, f.name) == other.groups()))
+        return [r for r in self.refusals if f"`{r.name}`" in function.comment.place]
 
     def scalars(self, t, path=""):
         """The numbers that a value is made of, in order: where each stands in it, and its type."""
@@ -127,11 +140,11 @@ def comment_of(text):
     """A comment's paragraphs, from its lines."""
     paragraphs = []
     for line in (re.sub(r"^ *// ?", "", line) for line in text.splitlines()):
-        if not paragraphs or re.match(r"Refused: |Example: |Writes ", line):
+        if not paragraphs or re.match(r"Writes |Refused: |Place: |Example: ", line):
             paragraphs.append(line)
         elif line:
             paragraphs[-1] += " " + line
-    kinds = {"Refused: ": "", "Example: ": ""}
+    kinds = {"Refused: ": "", "Place: ": "", "Example: ": ""}
     for paragraph in list(paragraphs):
         for kind in kinds:
             if paragraph.startswith(kind):
@@ -163,7 +176,8 @@ def structs_of(source):
 
 def enums_of(source):
     for name, variants in re.findall(r"^pub enum (\w+) \{\n(.*?)^\}", source, re.S | re.M):
-        yield name, Enum(bool(re.search(r"^    (None|Miss),$", variants, re.M)), "Refused(u32)" in variants)
+        none = bool(re.search(r"^    (None|Miss),$", variants, re.M))
+        yield name, Enum(none, "Refused(u32)" in variants, "place: usize" in variants)
 
 
 def refusals_of(source):
@@ -196,4 +210,9 @@ def read():
         enums.update(enums_of(source))
     refusals = tuple(refusals_of((ROOT / "crates/types/src/refusal.rt").read_text()))
     structs.sort(key=lambda s: s.is_answer)
-    return Model(tuple(functions), {s.name: s for s in structs}, refusals, enums, modules)
+    model = Model(tuple(functions), {s.name: s for s in structs}, refusals, enums, modules)
+    for function in functions:
+        told, enum = bool(model.places(function)), model.enum(function)
+        if told and not enum.placed or not told and enum.placed and not enum.refused:
+            sys.exit(f"boundary: {function.symbol} and its comment differ on the places of refusals")
+    return model

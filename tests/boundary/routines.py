@@ -15,10 +15,15 @@ NAMES = {
     "bgz_aabb_intersections_against_lines": "aabb.lines",
     "bgz_aabb_intersections_against_ray": "aabb.ray",
     "bgz_aabb_is_include_point": "aabb.include",
+    "bgz_hatch_read_patterns": "hatch.read",
 }
 # The letters of struct routine: a number that is none of these is a whole number; a list by its entries and whether it is written.
 NUMBERS = {"f32": "f", "i32": "i"}
 LISTS = {("u32", True): "u", ("f32", True): "f", ("u8", True): "b", ("f32", False): "F", ("u8", False): "B"}
+# Functions whose u32 are the bits of floats.
+PATTERNS = {"bgz_hatch_read_patterns"}
+# What an answer tells of the first list, in the place of its last number.
+WRITTEN = {"CountAnswer": "l", "ReadAnswer": "e"}
 
 HEAD = """\
 /* Written by tests/generate from the functions that the Rattle sources export. */
@@ -63,15 +68,17 @@ class Call:
         self.arguments = [handed[p.name] for p in function.parameters]
         if not self.lent:
             answered = [(f"r{path}", letter_of(t)) for path, t in model.scalars(function.result)]
-            self.has_status = answered[0][0] == "r.status"
-            self.values = answered[self.has_status:]
+            paths = [path for path, _ in answered]
+            self.has_status, self.has_place = "r.status" in paths, "r.place" in paths
+            self.values = [(path, letter) for path, letter in answered if path not in ("r.status", "r.place")]
 
     def hand(self, parameter):
         """Adds a parameter's fields, and gives the C text that hands it over."""
         t = parameter.type
         if t.list:
-            self.fields.append(("room", "r") if t.mutable else (parameter.name, LISTS[t.name, False]))
-            self.lists.append(LISTS[t.name, t.mutable])
+            letter = LISTS[t.name, t.mutable]
+            self.fields.append(("room", "r") if t.mutable else (parameter.name, letter))
+            self.lists.append("p" if letter == "u" and self.function.symbol in PATTERNS else letter)
             place = f"in->lists[{len(self.lists) - 1}]"
             return f"{place}.start, {place}.length"
         numbers, before = [], len(self.fields)
@@ -95,14 +102,20 @@ class Call:
 
     @property
     def request(self):
-        """The name in requests, as C text. Bytes have no place in a request yet."""
-        asked = self.lists in ([], ["F"]) or self.gives == "l"
+        """The name in requests, as C text. The report is asked for by the program hatch_clip."""
         name = NAMES.get(self.function.symbol, f"{self.function.module}.{self.function.name}")
-        return f'"{name}"' if asked else "NULL"
+        return "NULL" if "b" in self.lists else f'"{name}"'
 
     @property
     def gives(self):
-        return "l" if self.function.result == "CountAnswer" else "".join(letter for _, letter in self.values)
+        letters = "".join(letter for _, letter in self.values)
+        written = WRITTEN.get(self.function.result)
+        return letters[:-1] + written if written else letters
+
+    @property
+    def places(self):
+        """The refusals that tell a place, as C text."""
+        return " | ".join(f"AT({r.name})" for r in self.model.places(self.function)) or "0"
 
     def statements(self):
         if self.count("f"):
@@ -121,6 +134,8 @@ class Call:
         else:
             yield f"{c.type_name(self.function.result)} r = {call}"
             yield f"out->status = {'r.status' if self.has_status else 'BGZ_ANSWERED'};"
+            if self.has_place:
+                yield "out->place = r.place;"
         for i, (path, letter) in enumerate(self.values):
             yield f"out->values[{i}].{letter} = {path};"
 
@@ -139,7 +154,7 @@ class Call:
         takes = "".join(letter for _, letter in self.fields)
         fields = " ".join(name for name, _ in self.fields)
         yield f'    {{{self.request}, CALL({self.name}), "{takes}", "{"".join(self.lists)}", "{self.gives}",'
-        yield f'     "{fields}"}},'
+        yield f'     "{fields}", {self.places}}},'
 
     def hold(self, most):
         """Ends if a routine has more than the table's form has room for."""
@@ -155,7 +170,8 @@ def table(model):
     for call in calls:
         call.hold(most)
     lines = [HEAD, *(line for call in calls for line in call.code())]
-    lines += ['#define CALL(name) "bgz_" #name, name\n', "const struct routine routines[] = {"]
+    lines += ['#define CALL(name) "bgz_" #name, name', "#define AT(name) (UINT32_C(1) << BGZ_REFUSED_##name)\n"]
+    lines += ["const struct routine routines[] = {"]
     lines += [line for call in calls for line in call.row()]
     lines += ["};\n", "const size_t routine_count = sizeof routines / sizeof routines[0];\n"]
     return "\n".join([*lines, f"const uint32_t last_refusal = {max(r.number for r in model.refusals)};\n"])

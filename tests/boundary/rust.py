@@ -3,7 +3,7 @@
 import re
 
 import example
-from rust_text import WIDTH, answer_name, comment, conversion, converted, origin, value_type
+from rust_text import answer_name, comment, conversion, converted, origin, signature, value_type
 from rust_types import answers_file, limits_file, refusal_file, shapes_file
 
 
@@ -13,6 +13,8 @@ def documentation(f, model, indent=0):
     if f.comment.refused:
         refused = re.sub(r"^as (`\w+::\w+`) is\.$", r"The refusals of \1, in the same order.", f.comment.refused)
         parts += [[" " * indent + "/// # Errors"], list(comment(refused, model, indent))]
+    if f.comment.place:
+        parts.append(list(comment(f"Place: {f.comment.place}", model, indent)))
     code = ["```", *example.code(f, model), "```"]
     parts += [[" " * indent + "/// # Example"], [f"{' ' * indent}/// {line}".rstrip() for line in code]]
     for i, part in enumerate(parts):
@@ -48,14 +50,6 @@ def arguments(p):
     return [f"{p.name}.{'as_mut_ptr' if t.mutable else 'as_ptr'}()", f"{p.name}.len()"] if t.list else [p.name]
 
 
-def signature(opening, parameters, closing, indent=0):
-    pad = " " * indent
-    line = f"{pad}{opening}({', '.join(parameters)}){closing}"
-    if len(line) <= WIDTH:
-        return [line]
-    return [f"{pad}{opening}(", *(f"{pad}    {p}," for p in parameters), f"{pad}){closing}"]
-
-
 def declaration(f, indent):
     safe = not any(p.type.list for p in f.parameters)
     yield f'{" " * indent}#[link_name = "{f.symbol}"]'
@@ -68,7 +62,8 @@ def body(f, model):
     lists = any(p.type.list for p in f.parameters)
     call = signature(f"raw::{f.name}", [text for p in f.parameters for text in arguments(p)], "", 8 if lists else 4)
     call = [line[4:] for line in call]
-    turned = f".{conversion(model.kind(f))}()" if f.enum else ""
+    placed = f"&[{', '.join(f'Refusal::{r.name}' for r in model.places(f))}]" if model.places(f) else ""
+    turned = f".{conversion(model.kind(f))}({placed})" if f.enum else ""
     if f.enum and f.result not in model.structs:
         yield f"answers::result({call[0]}, ())"
     elif lists:
@@ -86,10 +81,12 @@ def uses(functions, model):
     """The lines that bring in what the functions name."""
     texts = [safe_parameter(p) for f in functions for p in f.parameters] + [answer_type(f, model) for f in functions]
     words = set(re.findall(r"\w+", " ".join(texts)))
+    if any(model.places(f) for f in functions):
+        words.add("Refusal")
     several = {answer_name(s) for s in model.structs.values() if s.is_answer and len(s.answered) > 1}
     if any(f.enum and f.result not in model.structs for f in functions):
         yield "use crate::answers;"
-    for module, names in (("answers", several), ("refusal", {"Refusal"}), ("shapes", set(model.structs))):
+    for module, names in (("answers", several), ("refusal", {"Refusal", "RefusalAt"}), ("shapes", set(model.structs))):
         named = sorted(words & names)
         if named:
             yield f"use crate::{module}::{named[0] if len(named) == 1 else '{' + ', '.join(named) + '}'};"

@@ -39,8 +39,23 @@ def value_type(struct):
 def converted(t, kind):
     """What an answer is in Rust: the value, perhaps none, perhaps refused."""
     t = f"Option<{t}>" if kind.none else t
-    return f"Result<{t}, Refusal>" if kind.refused else t
+    return f"Result<{t}, {'RefusalAt' if kind.placed else 'Refusal'}>" if kind.refused else t
 
 
 def conversion(kind):
-    return {(True, False): "option", (False, True): "result", (True, True): "result_of_option"}[kind.none, kind.refused]
+    names = {
+        (True, False, False): "option",
+        (False, True, False): "result",
+        (True, True, False): "result_of_option",
+        (False, True, True): "result_at",
+    }
+    return names[kind.none, kind.refused, kind.placed]
+
+
+def signature(opening, parameters, closing, indent=0):
+    """A function's head, or a call: on a line if it fits, and else a parameter a line."""
+    pad = " " * indent
+    line = f"{pad}{opening}({', '.join(parameters)}){closing}"
+    if len(line) <= WIDTH:
+        return [line]
+    return [f"{pad}{opening}(", *(f"{pad}    {p}," for p in parameters), f"{pad}){closing}"]

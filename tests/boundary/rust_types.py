@@ -3,7 +3,7 @@
 import re
 
 from limits import LIMITS
-from rust_text import WIDTH, answer_name, comment, conversion, converted, origin, value_type
+from rust_text import WIDTH, answer_name, comment, conversion, converted, origin, signature, value_type
 
 
 def struct(name, fields, above):
@@ -79,9 +79,10 @@ def methods(s, model):
     yield f"impl {s.name} {{"
     for i, (name, kind) in enumerate(sorted(kinds.items())):
         yield from [""] * (i > 0)
+        taken, handed = (["placed: &[Refusal]"], ["self.place", "placed"]) if kind.placed else ([], [])
         yield "    #[inline]"
-        yield f"    pub fn {name}(self) -> {converted(value_type(s), kind)} {{"
-        yield f"        {name}(self.status, {value})"
+        yield f"    pub fn {name}({', '.join(['self', *taken])}) -> {converted(value_type(s), kind)} {{"
+        yield from signature(name, ["self.status", value, *handed], "", 8)
         yield "    }"
     yield "}"
 
@@ -100,6 +101,18 @@ pub(crate) fn result<T>(status: u32, value: T) -> Result<T, Refusal> {
 #[inline]
 pub(crate) fn result_of_option<T>(status: u32, value: T) -> Result<Option<T>, Refusal> {
     if status == NONE { Ok(None) } else { result(status, value).map(Some) }
+}
+
+/// `placed` are the refusals that tell a place.
+#[inline]
+pub(crate) fn result_at<T>(
+    status: u32,
+    value: T,
+    place: usize,
+    placed: &[Refusal],
+) -> Result<T, RefusalAt> {
+    result(status, value)
+        .map_err(|refusal| RefusalAt { refusal, place: placed.contains(&refusal).then_some(place) })
 }"""
 
 
@@ -108,7 +121,7 @@ def answers_file(model):
     yield "//!"
     yield from origin("crates/c_answers/src/lib.rt and crates/c_hatch/src/answer.rt")
     yield ""
-    yield "use crate::refusal::Refusal;"
+    yield "use crate::refusal::{Refusal, RefusalAt};"
     yield "use crate::shapes::{Aabb2, Vec2};"
     yield ""
     yield "/// The status of an answer."
@@ -151,6 +164,12 @@ impl Refusal {
         self.0
     }
 
+    /// The refusal at a place, to compare an error with: `refused == Refusal::NOT_FINITE.at(2)`.
+    #[inline]
+    pub const fn at(self, place: usize) -> RefusalAt {
+        RefusalAt { refusal: self, place: Some(place) }
+    }
+
     #[inline]
     pub(crate) const fn numbered(number: u32) -> Self {
         Refusal(number)
@@ -178,15 +197,73 @@ impl fmt::Debug for Refusal {
     }
 }
 
-impl Error for Refusal {}"""
+impl Error for Refusal {}
+
+/// A refusal, with its place if it tells one. Which refusals do, and what the place counts, stands
+/// under Errors in the documentation of each routine.
+#[derive(Clone, Copy, PartialEq, Eq, Hash)]
+pub struct RefusalAt {
+    /// Why the call was refused.
+    pub refusal: Refusal,
+    /// The place, and `None` if this refusal tells none. 0 is a place too.
+    pub place: Option<usize>,
+}
+
+impl RefusalAt {
+    /// The number of the refusal.
+    #[inline]
+    pub const fn number(self) -> u32 {
+        self.refusal.number()
+    }
+}
+
+/// For `?` in a function whose errors are refusals alone: the place is dropped.
+impl From<RefusalAt> for Refusal {
+    fn from(told: RefusalAt) -> Self {
+        told.refusal
+    }
+}
+
+/// For `?` in a function whose errors may have a place. This one has none, and equals none that
+/// has.
+impl From<Refusal> for RefusalAt {
+    fn from(refusal: Refusal) -> Self {
+        RefusalAt { refusal, place: None }
+    }
+}
+
+impl fmt::Display for RefusalAt {
+    fn fmt(&self, f: &mut fmt::Formatter<'_>) -> fmt::Result {
+        match self.place {
+            Some(place) => write!(f, "{} (place {place})", self.refusal),
+            None => write!(f, "{}", self.refusal),
+        }
+    }
+}
+
+/// Name, number, place and text, for the message of a panic.
+impl fmt::Debug for RefusalAt {
+    fn fmt(&self, f: &mut fmt::Formatter<'_>) -> fmt::Result {
+        let (name, text) = self.refusal.name_and_text();
+        match self.place {
+            Some(place) => write!(f, "{name} ({}) at {place}: {text}", self.number()),
+            None => write!(f, "{:?}", self.refusal),
+        }
+    }
+}
+
+impl Error for RefusalAt {}"""
 
 
 def refusal_arm(r):
+    """An arm of the match, as rustfmt breaks it."""
     text = f'"{r.text[0].lower()}{r.text[1:].removesuffix(".")}"'
-    arm = f'            Refusal::{r.name} => ("{r.name}", {text}),'
-    if len(arm) <= WIDTH:
-        return arm
-    return f'            Refusal::{r.name} => (\n                "{r.name}",\n                {text},\n            ),'
+    opening, pair = f"            Refusal::{r.name} =>", f'("{r.name}", {text})'
+    if len(f"{opening} {pair},") <= WIDTH:
+        return f"{opening} {pair},"
+    if len(pair) + 16 <= WIDTH:
+        return f"{opening} {{\n                {pair}\n            }}"
+    return f'{opening} (\n                "{r.name}",\n                {text},\n            ),'
 
 
 def refusal_file(model):

@@ -88,12 +88,9 @@ static void mark_written(struct caller *caller) {
 
 /* ---- answers */
 
-static bool answers_list(const struct routine *routine) {
-    return routine->gives[0] == 'l';
-}
-
-static bool answers_records(const struct routine *routine) {
-    return strcmp(routine->gives, "uu") == 0;
+/* Whether it tells how many entries of the first list it wrote. */
+static bool tells_written(const struct routine *routine) {
+    return strpbrk(routine->gives, "le") != NULL;
 }
 
 /* How many entries at the start of a list the routine may have written. */
@@ -101,10 +98,8 @@ static size_t written(const struct caller *caller, const struct answer *out, siz
     size_t length = caller->in.lists[i].length;
     if (out->status != BGZ_ANSWERED)
         return 0;
-    if (answers_list(caller->routine))
-        return out->values[0].u;
-    if (answers_records(caller->routine))
-        return 8 * out->values[1].u;
+    if (tells_written(caller->routine))
+        return entries_written(caller->routine, out);
     /* A report tells its length in bytes; what it reads on the way may fill the list lent for it. */
     return caller->routine->lists[i] == 'b' && out->values[0].u < length ? out->values[0].u : length;
 }
@@ -114,6 +109,7 @@ static void look(const struct caller *caller, const struct answer *out) {
     const struct routine *routine = caller->routine;
     hold(caller, out->status <= last_refusal || out->status == BGZ_NONE, "a status that the header does not have");
     hold(caller, out->status == BGZ_ANSWERED || is_empty(routine, out), "a refusal with an answer");
+    hold(caller, out->place == 0 || tells_place(routine, out->status), "a place that is not told");
     for (size_t i = 0; routine->lists[i] != '\0'; i++) {
         const struct list *list = &caller->in.lists[i];
         size_t bytes = bytes_of(caller, i);
@@ -151,6 +147,7 @@ static void mix_list(struct caller *caller, size_t i) {
 
 static void digest(struct caller *caller, const struct answer *out) {
     mix(&caller->digest, out->status);
+    mix(&caller->digest, out->place);
     for (size_t i = 0; caller->routine->gives[i] != '\0'; i++) {
         if (caller->routine->gives[i] == 'f')
             mix_float(&caller->digest, out->values[i].f);
@@ -176,7 +173,7 @@ static struct arguments handed(struct caller *caller) {
 }
 
 static struct answer call(struct caller *caller) {
-    struct answer out;
+    struct answer out = {.place = 0};
     struct arguments in = handed(caller);
     mark_written(caller);
     unsigned usual = _mm_getcsr();
@@ -203,7 +200,7 @@ static void call_again_with_room(struct caller *caller, struct answer first) {
 
 static void call_as_it_is(struct caller *caller) {
     struct answer out = call(caller);
-    if (out.status == BGZ_ANSWERED && (answers_list(caller->routine) || answers_records(caller->routine)))
+    if (out.status == BGZ_ANSWERED && tells_written(caller->routine))
         call_again_with_room(caller, out);
 }
 
@@ -225,8 +222,9 @@ void call_often(struct caller *caller, const struct routine *routine, uint64_t c
 
 void call_with(struct caller *caller, const struct request *request) {
     caller->routine = request->routine;
-    memcpy(caller->floats, request->floats, request->float_count * sizeof *request->floats);
-    memcpy(caller->wholes, request->wholes, sizeof caller->wholes);
+    const struct input *input = &request->input;
+    memcpy(caller->floats, input->floats, input->float_count * sizeof *input->floats);
+    memcpy(caller->wholes, input->wholes, sizeof caller->wholes);
     for (size_t i = 0; caller->routine->lists[i] != '\0'; i++)
         place(caller, i, FENCED / 4);
     call_as_it_is(caller);

@@ -73,7 +73,7 @@ static void make_requests(struct caller *caller) {
         if (strpbrk(request.routine->lists, "FB") != NULL)
             fail("a request with a list that is read", request.routine->name);
         call_with(caller, &request);
-        free(request.floats);
+        free_request(&request);
     }
     fclose(file);
 }

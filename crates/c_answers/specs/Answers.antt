@@ -1,4 +1,5 @@
--- Answers as C sees them: status 0 with the answer, 255 where there is none, and a refusal's number; the rest is zero. Definitions only.
+-- Answers as C sees them: status 0 with the answer, 255 where there is none, and a refusal's number, with its place where it tells one; the
+-- rest is zero. Definitions only.
 use Prim.Native.Nat.{ℕ}
 use lib.Ieee.{Float}
 use Rattle.types.specs.declared.shape.Vec2.{Vec2}
@@ -74,8 +75,9 @@ ofPixels (pixels.Some x0 y0 x1 y1) = record { status = 0; x0 = x0; y0 = y0; x1 =
 ofPixels (pixels.Refused n) = record { status = n; x0 = 0; y0 = 0; x1 = 0; y1 = 0 }
 
 unfoldable pub ofListed : Listed → CountAnswer
-ofListed (listed.Count n) = record { status = 0; count = n }
-ofListed (listed.Refused n) = record { status = n; count = 0 }
+ofListed (listed.Count n) = record { status = 0; count = n; place = 0 }
+ofListed (listed.Refused n) = record { status = n; count = 0; place = 0 }
+ofListed (listed.RefusedAt n place) = record { status = n; count = 0; place = place }
 
 -- the box is with the lender: the status alone
 abbrev pub ofWidened : Widened → ℕ

@@ -1,5 +1,5 @@
 // Answers as C sees them. The status is 0 where there is an answer, 255 where there is none, and a refusal's number otherwise;
-// what is not answered is zero.
+// what is not answered is zero, and so is a place that is not told.
 use types::Aabb2;
 use types::Boxed;
 use types::Extent;
@@ -64,6 +64,8 @@ pub struct PixelsAnswer {
 pub struct CountAnswer {
     pub status: u32,
     pub count: usize,
+    // The place of a refusal that tells one, and else 0.
+    pub place: usize,
 }
 
 pub fn extent(a: Extent) -> FloatAnswer
@@ -171,8 +173,21 @@ pub fn listed(a: Listed) -> CountAnswer
     ensures { λ r. ⌜ r ≡ ofListed a ⌝ }
 {
     match a {
-        Listed::Count(count) => CountAnswer { status: 0, count },
-        Listed::Refused(status) => CountAnswer { status, count: 0 },
+        Listed::Count(count) => CountAnswer {
+            status: 0,
+            count,
+            place: 0,
+        },
+        Listed::Refused(status) => CountAnswer {
+            status,
+            count: 0,
+            place: 0,
+        },
+        Listed::RefusedAt { number, place } => CountAnswer {
+            status: number,
+            count: 0,
+            place,
+        },
     }
 }
 

@@ -127,8 +127,10 @@ pub extern "C" fn bgz_edge2_ink(s: Vec2, e: Vec2, b: Aabb2) -> FloatAnswer
 // stroke, though it may name one of the image. The stroke's pixels are the entries before it.
 // Writes the entries to the start of `list` and answers how many: at most one more than the longer of `width` and `height`, so a
 // list of that length is never too short.
-// Refused: `SIZE` if `width` or `height` is above 16,384; `COORDINATE` if a coordinate is not finite or is above 65,536 in size;
-// `SAME_ENDS` if `p0` equals `p1`; `ROOM` if `list` is shorter than the entries.
+// Refused: `SIZE` if `width` or `height` is above 16,384; of the coordinates `p0.x`, `p0.y`, `p1.x`, `p1.y` the first that offends
+// decides: `NOT_FINITE` if it is not finite, `COORDINATE` if it is above 65,536 in size; `SAME_ENDS` if `p0` equals `p1`; `ROOM` if `list`
+// is shorter than the entries.
+// Place: `NOT_FINITE` and `COORDINATE` tell which coordinate, 0 to 3 in that order; the others tell none.
 // Example: 8, 4, (1.5, 1.5), (3.5, 1.5), [0; 6] gives 4 and leaves [9, 10, 11, 12, 0, 0].
 #[no_mangle]
 pub extern "C" fn bgz_edge2_overlapping_pixels_dda(

@@ -11,21 +11,25 @@ pub struct ReadAnswer {
     pub version: usize,
     // The number of records.
     pub count: usize,
+    // The byte of a refusal, and else 0.
+    pub place: usize,
 }
 
 pub fn read(a: Read) -> ReadAnswer
     ensures { λ r. ⌜ r ≡ ofRead a ⌝ }
 {
     match a {
-        Read::Refused(status) => ReadAnswer {
-            status,
+        Read::Refused { number, place } => ReadAnswer {
+            status: number,
             version: 0,
             count: 0,
+            place,
         },
         Read::Accepted { version, count } => ReadAnswer {
             status: 0,
             version,
             count,
+            place: 0,
         },
     }
 }

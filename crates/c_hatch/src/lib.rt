@@ -18,6 +18,8 @@ ghost use Rattle.c_hatch.specs.Answer.{ofRead};
 // Writes the 8 * count floats to the start of `out` and answers version and count.
 // Refused: `MARK` if the bytes do not begin with "HSL"; `LENGTH` if they are fewer than 7; `VERSION` if the version is not 1;
 // `COUNT` if the count is above 2,000; `LENGTH` if they are not 7 + 32 * count; `ROOM` if `out` is shorter than 8 * count.
+// Place: a byte, from 0 on: 0 with `MARK`, 3 with `VERSION`, 5 with `COUNT`; with `LENGTH` the number of the bytes if they are too few, and
+// 7 + 32 * count if they are too many; with `ROOM` 7 + 32 * count.
 // Example: "HSL\1\0\0\0", [] gives (1, 0).
 #[no_mangle]
 pub extern "C" fn bgz_hatch_read_floats(bytes: &[u8], out: &mut [f32]) -> ReadAnswer
@@ -30,6 +32,7 @@ pub extern "C" fn bgz_hatch_read_floats(bytes: &[u8], out: &mut [f32]) -> ReadAn
 // `hatch::read_floats` with each float as its bits, so that a NaN keeps them.
 // Writes the 8 * count patterns to the start of `out` and answers version and count.
 // Refused: as `hatch::read_floats` is.
+// Place: that of `hatch::read_floats`.
 // Example: "HSL\1\0\0\0", [] gives (1, 0).
 #[no_mangle]
 pub extern "C" fn bgz_hatch_read_patterns(bytes: &[u8], out: &mut [u32]) -> ReadAnswer
@@ -50,8 +53,8 @@ pub extern "C" fn bgz_hatch_record_count(floats: &[f32]) -> usize
 
 // The report on a hatch list, as text: each record clipped as a line. "HSL", version and count; then for each record a line with its
 // place from 1 and "miss", or "hit" with tmin and tmax as eight hexadecimal digits of their bits, any zero as 00000000. Fields stand
-// one space apart, and a line ends in a line feed. For bytes that are no hatch list the text is "refused" and the number that
-// `hatch::read_floats` gives.
+// one space apart, and a line ends in a line feed. For bytes that are no hatch list the text is "refused", the number and the
+// byte that `hatch::read_floats` gives.
 // Writes as much of the text as `out` has room for to its start, with no NUL after it, and answers the bytes of the whole text.
 // Example: "HSL\1\0\0\0", [0; 8] gives 8 and leaves "HSL 1 0\n".
 #[no_mangle]

@@ -15,8 +15,8 @@ use Rattle.lists.specs.Places.{upto}
 use Rattle.stroke.specs.Walk.{stepOf, axisOf, at, within, inRanges, firstOutside, exit, positions}
 use Rattle.stroke.specs.Image.{onSide, inSides}
 use Rattle.pixels.specs.Entries.{number, kept, pixels, entries, strokeOf}
-use Rattle.stroke.specs.Check.{sidesTooLarge, withinLimit, firstOffender, sameEnds}
-use Rattle.pixels.specs.Answer.{overlappingPixelsDdaOf}
+use Rattle.stroke.specs.Check.{sidesTooLarge, withinLimit, numberOf, offenderFrom, sameEnds}
+use Rattle.pixels.specs.Answer.{unlessOffender, overlappingPixelsDdaOf}
 use Rattle.figures.specs.Claim.{FiguresHold}
 
 pub hold : FiguresHold
@@ -25,10 +25,11 @@ unfolding round ofInt ofBits neg add sub mul div lt le ne eq isNan toUnsigned ab
     encodedOf resultsOf intersectionsAgainstLinesOf
     tilesOf overlappingTilesOf
     stepOf axisOf at within inRanges firstOutside exit upto positions onSide inSides number kept pixels entries strokeOf
-    sidesTooLarge withinLimit firstOffender sameEnds fitted overlappingPixelsDdaOf
+    sidesTooLarge withinLimit numberOf offenderFrom sameEnds fitted unlessOffender overlappingPixelsDdaOf
 hold = (
   (refl, (refl, (refl, (refl, (refl, (refl, (refl, (refl, (refl, ((refl, refl), ((refl, refl), ((refl, refl), ((refl, refl, refl), tt))))))))))))),
   (refl, (refl, (refl, (refl, (refl, (refl, ((refl, refl, refl), tt))))))),
   ((refl, refl), ((refl, refl, refl), ((refl, refl, refl), ((refl, refl, refl), ((refl, refl, refl), ((refl, refl, refl), ((refl, refl, refl), tt))))))),
   ((refl, refl), ((refl, refl), ((refl, refl), (refl, (refl, (refl, tt)))))),
+  (λ _. refl, (λ _. refl, (λ _. refl, (λ _. refl, (λ _. refl, (λ _. refl, (λ _. refl, (λ _. refl, (λ _. refl, (λ _. refl, (λ _. refl, (λ _. refl, (λ _. refl, tt))))))))))))),
 )

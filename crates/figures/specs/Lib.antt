@@ -3,4 +3,5 @@ pub mod Starred
 pub mod Twins
 pub mod Further
 pub mod Faces
+pub mod Offenders
 pub mod Claim

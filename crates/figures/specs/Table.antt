@@ -12,6 +12,7 @@ use Rattle.types.specs.declared.shape.Aabb2.{Aabb2}
 use Rattle.types.specs.declared.answer.Interval.{Interval}
 use Rattle.types.specs.declared.answer.Extent.{Extent}
 use Rattle.types.specs.declared.answer.Pixels.{Pixels}
+use Rattle.types.specs.declared.answer.Listed.{Listed}
 use Rattle.types.specs.declared.answer.Listed.the-variants.{Count, Refused}
 use Rattle.range.specs.Values.{intersectionLengthOf}
 use Rattle.aabb.specs.Clip.{intersectionsAgainstLineOf, intersectionsAgainstRayOf}
@@ -79,6 +80,10 @@ stroke p q width height numbers =
     (strokeOf width height p q ≡ numbers)
     × (overlappingPixelsDdaOf width height p q (length numbers) ≡ Count (length numbers))
     × (overlappingPixelsDdaOf width height p q (length numbers - 1) ≡ Refused 1)
+
+-- a stroke is refused so, whatever the length of the list
+abbrev pub strokeRefused : Vec2 → Vec2 → ℕ → ℕ → Listed → Type 0
+strokeRefused p q width height answer = (room : ℕ) → overlappingPixelsDdaOf width height p q room ≡ answer
 
 -- ---- the claim about a list of rows: each of them holds
 

@@ -1,5 +1,6 @@
-// Absolute value, minimum, maximum and clamp on f32. specs/Values.antt has what each returns.
+// Absolute value, finiteness, minimum, maximum and clamp on f32. specs/Values.antt has what each returns; `finite` is the toolchain's.
 ghost use mathlib.Core.Path.{_≡_};
+ghost use lib.Ieee.Scale.{finite};
 ghost use Rattle.float.specs.Values.{absOf, minOf, maxOf, clampOf, lesserOf, greaterOf, numberOrOf};
 
 // 2 ^ 23: the weight of the leading one of an f32's 24 binary digits, and of the exponent's field among its bits.
@@ -15,6 +16,13 @@ pub fn abs(x: f32) -> f32
     } else {
         x
     }
+}
+
+// Neither infinite nor a NaN.
+pub fn is_finite(x: f32) -> bool
+    ensures { λ r. ⌜ r ≡ finite x ⌝ }
+{
+    abs(x) < 1.0 / 0.0
 }
 
 // The smaller of two numbers, and the other one where one is a NaN.

@@ -8,7 +8,7 @@ use lib.Dec.{ltb, eqb}
 use lib.ListN.{length}
 use borrow.Author.Tests.{ltb-false, eqb-true, le-ltb, eq-eqb}
 use Rattle.hatch_format.specs.Bytes.{halfAt, startsWith}
-use Rattle.hatch_format.specs.Format.{layoutOf, sizedOf, versionedOf, headOf}
+use Rattle.hatch_format.specs.Format.{layoutOf, expectedLength, wrongLength, sizedOf, versionedOf, headOf}
 use Rattle.hatch_format.specs.declared.header.Row.{Row}
 use Rattle.hatch_format.specs.declared.header.Layout.{Layout}
 use Rattle.hatch_format.specs.declared.header.Layout.the-variants.{Unknown, Known}
@@ -22,16 +22,22 @@ pub record File (mark : List ℕ) (table : List Row) (b : List ℕ) (r : Row) (n
   pub few : n ≤ r .limit
   pub whole : length b ≡ 7 + r .width * n
 
-never : {A : Type 0} (k : ℕ) (r : Row) (n : ℕ) → Refused k ≡ Accepted r n → A
-never k r n e = absurd (let z : _≡_ {A = ℕ} 0 1 = cc in omega arith)
+never : {A : Type 0} (k place : ℕ) (r : Row) (n : ℕ) → Refused k place ≡ Accepted r n → A
+never k place r n e = absurd (let z : _≡_ {A = ℕ} 0 1 = cc in omega arith)
+
+wrong-never : {A : Type 0} (size expected : ℕ) (r : Row) (n : ℕ) → wrongLength size expected ≡ Accepted r n → A
+unfolding wrongLength
+wrong-never size expected r n e = never _ _ r n e
 
 module _ (mark : List ℕ) (table : List Row) (b : List ℕ) (r : Row) (n : ℕ) where
   -- the tests of `headOf`, from the last to the first; each `go` takes the answer of a test
   module _ (m : startsWith mark b ≡ true) where
-    sized-go : (s : Row) (t u : Bool) → layoutOf table (halfAt b 3) ≡ Known s → ltb (s .limit) (halfAt b 5) ≡ t → eqb (length b) (7 + s .width * halfAt b 5) ≡ u
-        → cond t (Refused 12) (cond u (Accepted s (halfAt b 5)) (Refused 13)) ≡ Accepted r n → File mark table b r n
-    sized-go s true u x et eu e = never _ _ _ e
-    sized-go s false false x et eu e = never _ _ _ e
+    sized-go : (s : Row) (t u : Bool) → layoutOf table (halfAt b 3) ≡ Known s → ltb (s .limit) (halfAt b 5) ≡ t
+        → eqb (length b) (expectedLength s (halfAt b 5)) ≡ u
+        → cond t (Refused 12 5) (cond u (Accepted s (halfAt b 5)) (wrongLength (length b) (expectedLength s (halfAt b 5)))) ≡ Accepted r n
+        → File mark table b r n
+    sized-go s true u x et eu e = never _ _ _ _ e
+    sized-go s false false x et eu e = wrong-never _ _ _ _ e
     sized-go s false true x et eu e =
         let rr : s ≡ r = cc in
         let nn : halfAt b 5 ≡ n = cc in
@@ -45,14 +51,14 @@ module _ (mark : List ℕ) (table : List Row) (b : List ℕ) (r : Row) (n : ℕ)
 
     row-go : (l : Layout) → layoutOf table (halfAt b 3) ≡ l → versionedOf l (length b) (halfAt b 5) ≡ Accepted r n → File mark table b r n
     unfolding versionedOf sizedOf
-    row-go Unknown x e = never _ _ _ e
-    row-go (Known s) x e = sized-go s (ltb (s .limit) (halfAt b 5)) (eqb (length b) (7 + s .width * halfAt b 5)) x refl refl e
+    row-go Unknown x e = never _ _ _ _ e
+    row-go (Known s) x e = sized-go s (ltb (s .limit) (halfAt b 5)) (eqb (length b) (expectedLength s (halfAt b 5))) x refl refl e
 
   mark-go : (s t : Bool) → startsWith mark b ≡ s
-      → cond s (cond t (Refused 13) (versionedOf (layoutOf table (halfAt b 3)) (length b) (halfAt b 5))) (Refused 10) ≡ Accepted r n
+      → cond s (cond t (wrongLength (length b) 7) (versionedOf (layoutOf table (halfAt b 3)) (length b) (halfAt b 5))) (Refused 10 0) ≡ Accepted r n
       → File mark table b r n
-  mark-go false t m e = never _ _ _ e
-  mark-go true true m e = never _ _ _ e
+  mark-go false t m e = never _ _ _ _ e
+  mark-go true true m e = wrong-never _ _ _ _ e
   mark-go true false m e = row-go m (layoutOf table (halfAt b 3)) refl e
 
   pub accepted-file : headOf mark table b ≡ Accepted r n → File mark table b r n

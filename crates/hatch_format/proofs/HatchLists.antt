@@ -41,5 +41,5 @@ unfolding decode bodyOf
 accepts-only b v n ps e = go (headOf hsl rows b) refl e
   where
     go : (h : Head) → headOf hsl rows b ≡ h → bodyOf h b ≡ accepted v n ps → HatchList b n
-    go (Refused k) x e = absurd (let z : _≡_ {A = ℕ} 0 1 = cc in omega arith)
+    go (Refused k place) x e = absurd (let z : _≡_ {A = ℕ} 0 1 = cc in omega arith)
     go (Accepted r m) x e = let same : m ≡ n = cc in subst (HatchList b) same (only b r m x)

@@ -6,18 +6,18 @@ use Prim.Native.Nat.{ℕ, _<_, _≤_}
 use lib.ListN.{length}
 use borrow.Author.Tests.{lt-ltb, le-ltb}
 use Rattle.hatch_format.specs.Bytes.{startsWith, halfAt}
-use Rattle.hatch_format.specs.Format.{layoutOf, versionedOf, headOf}
+use Rattle.hatch_format.specs.Format.{layoutOf, wrongLength, versionedOf, headOf}
 use Rattle.hatch_format.specs.declared.header.Row.{Row}
 use Rattle.hatch_format.specs.declared.header.Layout.{Layout}
 use Rattle.hatch_format.specs.declared.header.Head.{Head}
 use Rattle.hatch_format.specs.declared.header.Head.the-variants.{Refused}
 
 module _ (mark : List ℕ) (table : List Row) (b : List ℕ) where
-  pub other-mark : startsWith mark b ≡ false → Refused 10 ≡ headOf mark table b
+  pub other-mark : startsWith mark b ≡ false → Refused 10 0 ≡ headOf mark table b
   unfolding headOf
   other-mark t = rw t
 
-  pub too-short : startsWith mark b ≡ true → length b < 7 → Refused 13 ≡ headOf mark table b
+  pub too-short : startsWith mark b ≡ true → length b < 7 → wrongLength (length b) 7 ≡ headOf mark table b
   unfolding headOf
   too-short t h = rw (t, lt-ltb (length b) 7 h)
 

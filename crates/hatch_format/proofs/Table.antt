@@ -2,7 +2,7 @@
 use mathlib.Core.Path.{_≡_, refl, subst}
 use mathlib.Core.Bool.{Bool, true, false, cond}
 use mathlib.Core.List.{List, [], _∷_}
-use Prim.Native.Nat.{ℕ, _<_, _≤_}
+use Prim.Native.Nat.{ℕ, _+_, _*_, _<_, _≤_}
 use native.Mathlib.Omega.{arith}
 use lib.Dec.{eqb, lit≤}
 use borrow.Author.Tests.{eqb-true}
@@ -24,13 +24,14 @@ found P (s ∷ table) v r h e = go (eqb (s .version) v) refl e (found P table v 
     go true t e later = let is : s ≡ r = cc in (subst P is (h .0), subst (λ (q : Row). q .version ≡ v) is (eqb-true (s .version) v t))
     go false t e later = later e
 
--- what is relied on of a version: a record holds its eight floats, a length fits, and a report has room in 54,014 bytes
+-- what is relied on of a version: a record holds its eight floats, a length fits and is at most 64,007, and a report has room in 54,014 bytes
 pub record Fine (r : Row) : Type 0 where
   pub digits : r .version < 10000
   pub wide : 32 ≤ r .width
   pub narrow : r .width < 65536
   pub few : r .limit ≤ 2000
+  pub short : 7 + r .width * r .limit ≤ 64007
 
 pub fine : Each Fine rows
 unfolding Each
-fine = (record { digits = lit≤ tt; wide = lit≤ tt; narrow = lit≤ tt; few = lit≤ tt }, tt)
+fine = (record { digits = lit≤ tt; wide = lit≤ tt; narrow = lit≤ tt; few = lit≤ tt; short = lit≤ tt }, tt)

@@ -29,13 +29,13 @@ patternsOf width b n = upto (patternAt width b) (8 * n)
 abbrev pub floatOf : ℕ → Float
 floatOf p = ofBits binary32 p
 
--- what a file says: the number of a refusal, or version, count and the floats' bits
+-- what a file says: the number of a refusal and its byte, or version, count and the floats' bits
 pub data Answer : Type 0 where
-  refused : ℕ → Answer
+  refused : ℕ → ℕ → Answer
   accepted : ℕ → ℕ → List ℕ → Answer
 
 unfoldable pub bodyOf : Head → List ℕ → Answer
-bodyOf (Refused number) b = refused number
+bodyOf (Refused number place) b = refused number place
 bodyOf (Accepted r n) b = accepted (r .version) n (patternsOf (r .width) b n)
 
 unfoldable pub decode : List ℕ → List Row → List ℕ → Answer

@@ -3,9 +3,11 @@ use crate::bytes::half;
 use crate::bytes::starts_with;
 ghost use mathlib.Core.Path.{_≡_};
 ghost use Prim.Native.Nat.{_<_};
-ghost use Rattle.hatch_format.specs.Format.{rows, layoutOf, sizedOf, headOf};
+ghost use Rattle.hatch_format.specs.Format.{rows, layoutOf, wrongLength, sizedOf, headOf};
 
 pub const HSL: [u8; 3] = [b'H', b'S', b'L'];
+
+const MARK_AT: usize = 0;
 
 const VERSION_AT: usize = 3;
 
@@ -26,9 +28,9 @@ pub enum Layout {
     Known(Row),
 }
 
-// The number of a refusal, or the row of the file's version and the count.
+// The number of a refusal and the byte that it tells, or the row of the file's version and the count.
 pub enum Head {
-    Refused(u32),
+    Refused { number: u32, place: usize },
     Accepted { row: Row, count: usize },
 }
 
@@ -46,18 +48,33 @@ fn layout_of(version: usize) -> Layout
     }
 }
 
+// A length that is not the expected one: the byte is where the shorter of the two ends.
+fn wrong_length(size: usize, expected: usize) -> Head
+    ensures { λ r. ⌜ r ≡ wrongLength size expected ⌝ }
+{
+    let place = if size < expected { size } else { expected };
+    Head::Refused {
+        number: types::refusal::LENGTH,
+        place,
+    }
+}
+
 // Tests the count, then the length.
 fn sized(row: Row, size: usize, count: usize) -> Head
     requires { ⌜ (row .width < 65536) × (count < 65536) ⌝ }
     ensures { λ r. ⌜ r ≡ sizedOf row size count ⌝ }
 {
     if row.limit < count {
-        return Head::Refused(types::refusal::COUNT);
+        return Head::Refused {
+            number: types::refusal::COUNT,
+            place: COUNT_AT,
+        };
     }
-    if size == RECORDS_AT + row.width * count {
+    let expected = RECORDS_AT + row.width * count;
+    if size == expected {
         Head::Accepted { row, count }
     } else {
-        Head::Refused(types::refusal::LENGTH)
+        wrong_length(size, expected)
     }
 }
 
@@ -66,15 +83,21 @@ pub fn head_of(mark: &[u8], bytes: &[u8]) -> Head
     ensures { λ r. ⌜ r ≡ headOf (now (mark .entry)) rows (now (bytes .entry)) ⌝ }
 {
     if !starts_with(bytes, mark) {
-        return Head::Refused(types::refusal::MARK);
+        return Head::Refused {
+            number: types::refusal::MARK,
+            place: MARK_AT,
+        };
     }
     if bytes.len() < RECORDS_AT {
-        return Head::Refused(types::refusal::LENGTH);
+        return wrong_length(bytes.len(), RECORDS_AT);
     }
     let version = half(bytes, VERSION_AT);
     let count = half(bytes, COUNT_AT);
     match layout_of(version) {
-        Layout::Unknown => Head::Refused(types::refusal::VERSION),
+        Layout::Unknown => Head::Refused {
+            number: types::refusal::VERSION,
+            place: VERSION_AT,
+        },
         Layout::Known(row) => sized(row, bytes.len(), count),
     }
 }

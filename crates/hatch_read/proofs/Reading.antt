@@ -11,7 +11,7 @@ use Rattle.lists.specs.Places.{upto}
 use Rattle.lists.specs.Lent.{written}
 use Rattle.lists.proofs.Entries.{map-upto}
 use Rattle.lists.proofs.Fill.{length-upto}
-use Rattle.hatch_format.specs.Format.{hsl, rows, headOf}
+use Rattle.hatch_format.specs.Format.{hsl, rows, expectedLength, headOf}
 use Rattle.hatch_format.specs.Decode.{patternAt, bodyOf, Holds}
 use Rattle.hatch_format.proofs.Records.{held}
 use Rattle.hatch_format.specs.declared.header.Row.{Row}
@@ -32,10 +32,11 @@ filled-written {A} f width b k l =
 -- a header that is accepted with the list is accepted, and the list has room
 accepted-within : (room : ℕ) (h : Head) {r : Row} {n : ℕ} → withRoom room h ≡ head.Accepted r n → (h ≡ head.Accepted r n) × (8 * n ≤ room)
 unfolding withRoom
-accepted-within room (head.Refused k) e = absurd (let z : _≡_ {A = ℕ} 0 1 = cc in omega arith)
+accepted-within room (head.Refused k place) e = absurd (let z : _≡_ {A = ℕ} 0 1 = cc in omega arith)
 accepted-within room (head.Accepted r n) e = go (ltb room (8 * n)) refl e
   where
-    go : {r′ : Row} {n′ : ℕ} (t : Bool) → ltb room (8 * n) ≡ t → cond t (head.Refused 1) (head.Accepted r n) ≡ head.Accepted r′ n′
+    go : {r′ : Row} {n′ : ℕ} (t : Bool) → ltb room (8 * n) ≡ t
+        → cond t (head.Refused 1 (expectedLength r n)) (head.Accepted r n) ≡ head.Accepted r′ n′
         → (head.Accepted r n ≡ head.Accepted r′ n′) × (8 * n′ ≤ room)
     go true t e = absurd (let z : _≡_ {A = ℕ} 0 1 = cc in omega arith)
     go {n′ = n′} false t e = let m : n ≡ n′ = cc in (e, subst (λ (k : ℕ). 8 * k ≤ room) m (ltb-false room (8 * n) t))
@@ -49,7 +50,8 @@ module _ (b : List ℕ) (room : ℕ) {h : Head} (is : h ≡ withRoom room (headO
       (held hsl b r n (x .0), x .1)
 
   module _ {A : Type 0} (f : ℕ → A) (l : List A) where
-    pub refuses : {k : ℕ} → h ≡ head.Refused k → (Refused k ≡ readOf (decodeInto hsl rows room b)) × (l ≡ readLeaves f (decodeInto hsl rows room b) l)
+    pub refuses : {k place : ℕ} → h ≡ head.Refused k place
+        → (Refused k place ≡ readOf (decodeInto hsl rows room b)) × (l ≡ readLeaves f (decodeInto hsl rows room b) l)
     unfolding decodeInto bodyOf readOf readLeaves
     refuses e =
         let x = sym e ∙ is in

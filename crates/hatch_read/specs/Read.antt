@@ -6,7 +6,7 @@ use lib.Dec.{ltb}
 use lib.ListN.{length}
 use lib.Ieee.{Float}
 use Rattle.lists.specs.Lent.{written}
-use Rattle.hatch_format.specs.Format.{headOf}
+use Rattle.hatch_format.specs.Format.{expectedLength, headOf}
 use Rattle.hatch_format.specs.Decode.{Answer, refused, accepted, bodyOf}
 use Rattle.hatch_format.specs.declared.header.Row.{Row}
 use Rattle.hatch_format.specs.declared.header.Head.{Head}
@@ -18,22 +18,22 @@ use Rattle.hatch_read.specs.declared.Read.the-variants.{Refused, Accepte
 abbrev pub recordCountOf : List Float → ℕ
 recordCountOf fs = length fs / 8
 
--- 1, last of all, for a list of `room` entries that does not hold eight floats a record
+-- 1, last of all, for a list of `room` entries that does not hold eight floats a record; it is told where the file ends
 unfoldable pub withRoom : ℕ → Head → Head
-withRoom room (head.Refused number) = head.Refused number
-withRoom room (head.Accepted r n) = cond (ltb room (8 * n)) (head.Refused 1) (head.Accepted r n)
+withRoom room (head.Refused number place) = head.Refused number place
+withRoom room (head.Accepted r n) = cond (ltb room (8 * n)) (head.Refused 1 (expectedLength r n)) (head.Accepted r n)
 
 -- what a file says, for such a list to read into
 unfoldable pub decodeInto : List ℕ → List Row → ℕ → List ℕ → Answer
 decodeInto mark table room b = bodyOf (withRoom room (headOf mark table b)) b
 
 unfoldable pub readOf : Answer → Read
-readOf (refused number) = Refused number
+readOf (refused number place) = Refused number place
 readOf (accepted version n ps) = Accepted version n
 
 -- the lent list afterwards: the floats' bits, each through f, in its first entries
 unfoldable pub readLeaves : {A : Type 0} → (ℕ → A) → Answer → List A → List A
-readLeaves f (refused number) l = l
+readLeaves f (refused number place) l = l
 readLeaves f (accepted version n ps) l = written (map f ps) l
 
 -- f for a list of the bits; for a list of floats it is `floatOf`

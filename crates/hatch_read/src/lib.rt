@@ -11,9 +11,9 @@ ghost use Rattle.hatch_format.specs.Decode.{floatOf, recordBitsOf, Holds};
 ghost use Rattle.hatch_read.specs.Read.{recordCountOf, withRoom, decodeInto, itself, readOf, readLeaves};
 ghost use Rattle.hatch_read.specs.Loading.{filled};
 
-// What became of a file. On a refusal the list keeps its contents.
+// What became of a file. A refusal tells its byte too, and the list keeps its contents.
 pub enum Read {
-    Refused(u32),
+    Refused { number: u32, place: usize },
     Accepted { version: usize, count: usize },
 }
 
@@ -43,10 +43,13 @@ fn head_within(bytes: &[u8], room: usize) -> Head
     ensures { λ r. ⌜ r ≡ withRoom room (headOf hsl rows (now (bytes .entry))) ⌝ }
 {
     match hatch_format::head_of(&HSL, bytes) {
-        Head::Refused(number) => Head::Refused(number),
+        Head::Refused { number, place } => Head::Refused { number, place },
         Head::Accepted { row, count } => {
             if room / 8 < count {
-                Head::Refused(types::refusal::ROOM)
+                Head::Refused {
+                    number: types::refusal::ROOM,
+                    place: bytes.len(),
+                }
             } else {
                 Head::Accepted { row, count }
             }
@@ -93,7 +96,7 @@ pub fn read_patterns(bytes: &[u8], out: &mut [u32]) -> Read
     ensures { λ r. ⌜ now (out .exit) ≡ readLeaves itself (decodeInto hsl rows (length (now (out .entry))) (now (bytes .entry))) (now (out .entry)) ⌝ }
 {
     match head_within(bytes, out.len()) {
-        Head::Refused(number) => Read::Refused(number),
+        Head::Refused { number, place } => Read::Refused { number, place },
         Head::Accepted { row, count } => {
             load_patterns(bytes, row.width, count, out);
             Read::Accepted {
@@ -110,7 +113,7 @@ pub fn read_floats(bytes: &[u8], out: &mut [f32]) -> Read
     ensures { λ r. ⌜ now (out .exit) ≡ readLeaves floatOf (decodeInto hsl rows (length (now (out .entry))) (now (bytes .entry))) (now (out .entry)) ⌝ }
 {
     match head_within(bytes, out.len()) {
-        Head::Refused(number) => Read::Refused(number),
+        Head::Refused { number, place } => Read::Refused { number, place },
         Head::Accepted { row, count } => {
             load_floats(bytes, row.width, count, out);
             Read::Accepted {

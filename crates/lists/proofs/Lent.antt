@@ -7,12 +7,20 @@ use native.Mathlib.Omega.{arith}
 use borrow.Author.Tests.{ltb-true}
 use lib.Dec.{ltb}
 use lib.ListN.{length}
-use Rattle.types.specs.declared.answer.Listed.the-variants.{Count, Refused}
+use Rattle.types.specs.declared.answer.Listed.the-variants.{Count, Refused, RefusedAt}
 use Rattle.lists.specs.Lent.{fitted}
 
 -- a refusal is no count
 pub no-count : {A : Type 0} (k n : ℕ) → Refused k ≡ Count n → A
 no-count k n e = absurd (let z : _≡_ {A = ℕ} 0 1 = cc in let y : ⊥ = omega arith in y)
+
+-- and nor is one that tells a place
+pub no-count-at : {A : Type 0} (k place n : ℕ) → RefusedAt k place ≡ Count n → A
+no-count-at k place n e = absurd (let z : _≡_ {A = ℕ} 0 1 = cc in let y : ⊥ = omega arith in y)
+
+-- a place is told, or it is not
+pub no-place : {A : Type 0} (k place n : ℕ) → RefusedAt k place ≡ Refused n → A
+no-place k place n e = absurd (let z : _≡_ {A = ℕ} 0 1 = cc in let y : ⊥ = omega arith in y)
 
 pub same-count : (m n : ℕ) → Count m ≡ Count n → m ≡ n
 same-count m n e = cc

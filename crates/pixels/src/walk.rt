@@ -2,6 +2,7 @@
 use crate::image::cut;
 use crate::image::pixel;
 use stroke::Axis;
+use stroke::Offender;
 use types::Listed;
 use types::Vec2;
 ghost use mathlib.Core.Path.{_≡_};
@@ -148,8 +149,8 @@ pub fn overlapping_pixels_dda(
     if stroke::sides_too_large(width, height) {
         return Listed::Refused(types::refusal::SIZE);
     }
-    if stroke::first_offender(p0, p1) < 4 {
-        return Listed::Refused(types::refusal::COORDINATE);
+    if let Offender::Found { number, place } = stroke::first_offender(&[p0.x, p0.y, p1.x, p1.y]) {
+        return Listed::RefusedAt { number, place };
     }
     if stroke::same_ends(p0, p1) {
         return Listed::Refused(types::refusal::SAME_ENDS);

@@ -12,7 +12,7 @@ use Rattle.text.specs.Page.{Page, page, Adds}
 use Rattle.text.specs.Ascii.{ascii}
 use Rattle.text.specs.Numbers.{decimal, hex8}
 use Rattle.text.proofs.Laws.{whole}
-use Rattle.text.proofs.Decimal.{decimal-4}
+use Rattle.text.proofs.Decimal.{decimal-4, decimal-5}
 use Rattle.hatch_format.specs.Format.{hsl, rows, headOf}
 use Rattle.hatch_format.specs.Decode.{Answer, refused, accepted, bodyOf, decode, patternsOf, floatOf}
 use Rattle.hatch_format.proofs.Bounds.{Bounded, bounded}
@@ -28,6 +28,10 @@ end-length x = refl
 field-length : (n : ℕ) → n < 10000 → length (fieldOf n) ≤ 5
 unfolding fieldOf
 field-length n h = omega (arith, decimal-4 n h)
+
+place-length : (n : ℕ) → n < 100000 → length (fieldOf n) ≤ 6
+unfolding fieldOf
+place-length n h = omega (arith, decimal-5 n h)
 
 line-length : (i : ℕ) (t : Interval) → i < 10000 → length (lineOf i t) ≤ 27
 unfolding lineOf
@@ -56,7 +60,14 @@ lines-length fs (suc n) h =
 
 text-length : (a : Answer) → Bounded a → length (textOf a) ≤ 54014
 unfolding Bounded textOf openingOf refusalOf
-text-length (refused k) s = omega (arith, length-append (fieldOf k) (ascii "\n"), field-length k (omega arith))
+text-length (refused k place) s =
+    omega (
+      arith,
+      length-append (fieldOf k) (fieldOf place ++ ascii "\n"),
+      length-append (fieldOf place) (ascii "\n"),
+      field-length k (omega (arith, s .0)),
+      place-length place (omega (arith, s .1)),
+    )
 text-length (accepted v n ps) s =
     omega (
       arith,
@@ -85,7 +96,7 @@ module _ (b l l′ : List ℕ) (r : ℕ) (t : Adds (page l 0) (reportOf b) (page
 
 -- h is the answer of the call that gives the header, and a match has found what h is
 module _ (b : List ℕ) {h : Head} (is : h ≡ headOf hsl rows b) where
-  pub refusal : {k : ℕ} → h ≡ head.Refused k → refusalOf k ≡ reportOf b
+  pub refusal : {k place : ℕ} → h ≡ head.Refused k place → refusalOf k place ≡ reportOf b
   unfolding reportOf decode bodyOf textOf
   refusal e = ap (λ (x : Head). textOf (bodyOf x b)) (sym e ∙ is)
 

@@ -52,8 +52,8 @@ examples =
       printed = ascii "HSL 1 1\n1 hit ff7fffff 7f7fffff\n";
     }
     ∷ record { bytes = head 0; printed = ascii "HSL 1 0\n" }
-    ∷ record { bytes = []; printed = ascii "refused 10\n" }
-    ∷ record { bytes = head 1; printed = ascii "refused 13\n" }
+    ∷ record { bytes = []; printed = ascii "refused 10 0\n" }
+    ∷ record { bytes = head 1; printed = ascii "refused 13 7\n" }
     ∷ []
 
 -- the report on each is what is printed; proved in proofs/Example.antt

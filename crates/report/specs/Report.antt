@@ -55,11 +55,11 @@ linesOf fs (suc k) = linesOf fs k ++ lineOf (k + 1) (clipAt fs k)
 unfoldable pub openingOf : ℕ → ℕ → List ℕ
 openingOf version n = hsl ++ (fieldOf version ++ (fieldOf n ++ ascii "\n"))
 
-unfoldable pub refusalOf : ℕ → List ℕ
-refusalOf number = ascii "refused" ++ (fieldOf number ++ ascii "\n")
+unfoldable pub refusalOf : ℕ → ℕ → List ℕ
+refusalOf number place = ascii "refused" ++ (fieldOf number ++ (fieldOf place ++ ascii "\n"))
 
 unfoldable pub textOf : Answer → List ℕ
-textOf (refused number) = refusalOf number
+textOf (refused number place) = refusalOf number place
 textOf (accepted version n ps) = openingOf version n ++ linesOf (map floatOf ps) n
 
 -- the report on the bytes of a file

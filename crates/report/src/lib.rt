@@ -1,4 +1,4 @@
-// The report on a hatch list, as text: each record clipped as a line, or the number of a refusal.
+// The report on a hatch list, as text: each record clipped as a line, or the number of a refusal and its byte.
 use hatch_format::HSL;
 use hatch_format::Head;
 use hatch_format::RECORDS_AT;
@@ -92,12 +92,13 @@ fn put_opening(out: &mut [u8], version: usize, count: usize) -> usize
     text::put_byte(out, c, b'\n')
 }
 
-fn put_refusal(out: &mut [u8], number: u32) -> usize
-    ensures { λ r. ⌜ Adds (page (now (out .entry)) 0) (refusalOf number) (page (now (out .exit)) r) ⌝ }
+fn put_refusal(out: &mut [u8], number: u32, place: usize) -> usize
+    ensures { λ r. ⌜ Adds (page (now (out .entry)) 0) (refusalOf number place) (page (now (out .exit)) r) ⌝ }
 {
     let a = text::put_text(out, 0, b"refused");
     let b = put_field(out, a, number as usize);
-    text::put_byte(out, b, b'\n')
+    let c = put_field(out, b, place);
+    text::put_byte(out, c, b'\n')
 }
 
 // Writes the report on a hatch list to the start of `out`, as far as it has room, and answers the length of the whole report.
@@ -107,7 +108,7 @@ pub fn report(bytes: &[u8], out: &mut [u8]) -> usize
     ensures { λ r. ⌜ r ≤ 54014 ⌝ }
 {
     match hatch_format::head_of(&HSL, bytes) {
-        Head::Refused(number) => put_refusal(out, number),
+        Head::Refused { number, place } => put_refusal(out, number, place),
         Head::Accepted { row, count } => {
             let at = put_opening(out, row.version, count);
             put_lines(out, at, bytes, row.width, count)

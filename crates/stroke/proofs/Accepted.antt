@@ -3,7 +3,7 @@ use mathlib.Core.Path.{_≡_, refl, sym, subst}
 use mathlib.Core.Bool.{Bool, true, false, _&&_, _||_, cond, true≢false}
 use mathlib.Core.Logic.{_⊎_, inl, inr}
 use mathlib.Core.List.{List, [], _∷_}
-use Prim.Native.Nat.{ℕ, suc, _*_, _≤_}
+use Prim.Native.Nat.{ℕ, suc, _*_}
 use native.Mathlib.Nat.{mul-one}
 use native.Mathlib.Omega.{arith}
 use lib.IntN.{pos}
@@ -19,7 +19,8 @@ use Rattle.rounded.proofs.Apart.{NonZero, apart}
 use Rattle.rounded.proofs.Slopes.{Slopes, slopes}
 use Rattle.stroke.specs.Walk.{stepOf, axisOf, alongX, alongY}
 use Rattle.stroke.specs.Stops.{Stops}
-use Rattle.stroke.specs.Check.{withinLimit, firstOffender, coordinates, sameEnds}
+use Rattle.stroke.specs.declared.check.Offender.the-variants.{None, Found}
+use Rattle.stroke.specs.Check.{withinLimit, numberOf, offenderFrom, firstOffender, coordinates, sameEnds}
 use Rattle.stroke.specs.Steps.{Sized}
 use Rattle.stroke.proofs.Outside.{Major, outside}
 use Rattle.stroke.proofs.Stops.{stops}
@@ -58,22 +59,23 @@ limit-size (fin s m e) t = omega (arith, le-num m e 1 (pos 16) (subst T (sym t) 
 coordinate : (x : Float) → fits binary32 x ≡ true → withinLimit x ≡ true → Coordinate x
 coordinate x f t = record { fit = subst T (sym f) tt; size = limit-size x t }
 
--- one coordinate is within the limit, and n more are
-within-more : (n : ℕ) (x : Float) (xs : List Float) → suc n ≤ firstOffender (x ∷ xs) → (withinLimit x ≡ true) × (n ≤ firstOffender xs)
-unfolding firstOffender
-within-more n x xs = go (withinLimit x)
+-- none offends: the first is within the limit, and none of the others offends
+within-more : (at : ℕ) (x : Float) (xs : List Float) → offenderFrom at (x ∷ xs) ≡ None
+    → (withinLimit x ≡ true) × (offenderFrom (suc at) xs ≡ None)
+unfolding offenderFrom
+within-more at x xs = go (withinLimit x)
   where
-    go : (t : Bool) → suc n ≤ cond t (suc (firstOffender xs)) 0 → (t ≡ true) × (n ≤ firstOffender xs)
-    go true h = (refl, omega arith)
-    go false h = absurd (let z : ⊥ = omega arith in z)
+    go : (t : Bool) → cond t (offenderFrom (suc at) xs) (Found (numberOf x) at) ≡ None → (t ≡ true) × (offenderFrom (suc at) xs ≡ None)
+    go true e = (refl, e)
+    go false e = absurd (let z : _≡_ {A = ℕ} 0 1 = cc in let y : ⊥ = omega arith in y)
 
-pub accepted : {p q : Vec2} → AreFloats p q → 4 ≤ firstOffender (coordinates p q) → sameEnds p q ≡ false → Accepted p q
+pub accepted : {p q : Vec2} → AreFloats p q → firstOffender (coordinates p q) ≡ None → sameEnds p q ≡ false → Accepted p q
 unfolding sameEnds
 accepted {p} {q} f t d =
-    let x0 = within-more 3 (p .x) (p .y ∷ q .x ∷ q .y ∷ []) t in
-    let y0 = within-more 2 (p .y) (q .x ∷ q .y ∷ []) (x0 .1) in
-    let x1 = within-more 1 (q .x) (q .y ∷ []) (y0 .1) in
-    let y1 = within-more 0 (q .y) [] (x1 .1) in
+    let x0 = within-more 0 (p .x) (p .y ∷ q .x ∷ q .y ∷ []) t in
+    let y0 = within-more 1 (p .y) (q .x ∷ q .y ∷ []) (x0 .1) in
+    let x1 = within-more 2 (q .x) (q .y ∷ []) (y0 .1) in
+    let y1 = within-more 3 (q .y) [] (x1 .1) in
     record {
       x0 = coordinate (p .x) (f .x0) (x0 .0);
       y0 = coordinate (p .y) (f .y0) (y0 .0);

@@ -4,8 +4,11 @@ use mathlib.Core.List.{List, [], _∷_}
 use Prim.Native.Nat.{ℕ, suc}
 use lib.Dec.{ltb}
 use lib.Ieee.{Float, binary32, ofBits, le, eq}
+use lib.Ieee.Scale.{finite}
 use Rattle.types.specs.declared.shape.Vec2.{Vec2}
 use Rattle.float.specs.Values.{absOf}
+use Rattle.stroke.specs.declared.check.Offender.{Offender}
+use Rattle.stroke.specs.declared.check.Offender.the-variants.{None, Found}
 
 -- an image side above 16,384
 unfoldable pub sidesTooLarge : ℕ → ℕ → Bool
@@ -19,10 +22,18 @@ limit = ofBits binary32 0x4780_0000
 unfoldable pub withinLimit : Float → Bool
 withinLimit x = le (absOf x) limit
 
--- the place of the first coordinate that is not within the limit, from 0 on, and the list's length if there is none
-unfoldable pub firstOffender : List Float → ℕ
-firstOffender [] = 0
-firstOffender (x ∷ xs) = cond (withinLimit x) (suc (firstOffender xs)) 0
+-- the refusal of a coordinate that is not within the limit: 3 if it is finite, and else 15
+unfoldable pub numberOf : Float → ℕ
+numberOf x = cond (finite x) 3 15
+
+-- the first coordinate that is not within the limit, places counted from `at`
+unfoldable pub offenderFrom : ℕ → List Float → Offender
+offenderFrom at [] = None
+offenderFrom at (x ∷ xs) = cond (withinLimit x) (offenderFrom (suc at) xs) (Found (numberOf x) at)
+
+-- its number and its place, from 0 on, decided together
+abbrev pub firstOffender : List Float → Offender
+firstOffender xs = offenderFrom 0 xs
 
 -- in the order of the arguments
 abbrev pub coordinates : Vec2 → Vec2 → List Float

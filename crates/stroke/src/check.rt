@@ -1,7 +1,13 @@
 // What is tested before a stroke is walked.
 use types::Vec2;
 ghost use mathlib.Core.Path.{_≡_};
-ghost use Rattle.stroke.specs.Check.{sidesTooLarge, withinLimit, firstOffender, coordinates, sameEnds};
+ghost use Rattle.stroke.specs.Check.{sidesTooLarge, withinLimit, numberOf, firstOffender, sameEnds};
+
+// A coordinate that is refused, by the number of its refusal and its place in a list; or that there is none.
+pub enum Offender {
+    None,
+    Found { number: u32, place: usize },
+}
 
 // A side above 16,384.
 pub fn sides_too_large(width: usize, height: usize) -> bool
@@ -20,23 +26,31 @@ fn within_limit(x: f32) -> bool
     float::abs(x) <= 65536.0
 }
 
-// The place of the first coordinate beyond the limit, from 0 on in the order x0, y0, x1, y1, and 4 if there is none.
-pub fn first_offender(p0: Vec2, p1: Vec2) -> usize
-    ensures { λ r. ⌜ r ≡ firstOffender (coordinates p0 p1) ⌝ }
+// The refusal of a coordinate that is not within the limit.
+fn number_of(x: f32) -> u32
+    ensures { λ r. ⌜ r ≡ numberOf x ⌝ }
 {
-    if !within_limit(p0.x) {
-        return 0;
+    if float::is_finite(x) {
+        types::refusal::COORDINATE
+    } else {
+        types::refusal::NOT_FINITE
     }
-    if !within_limit(p0.y) {
-        return 1;
+}
+
+// The first of the coordinates that is not within the limit.
+pub fn first_offender(coordinates: &[f32]) -> Offender
+    ensures { λ r. ⌜ r ≡ firstOffender (now (coordinates .entry)) ⌝ }
+{
+    let mut place = 0;
+    while place < coordinates.len() {
+        let x = coordinates[place];
+        if !within_limit(x) {
+            let number = number_of(x);
+            return Offender::Found { number, place };
+        }
+        place += 1;
     }
-    if !within_limit(p1.x) {
-        return 2;
-    }
-    if !within_limit(p1.y) {
-        return 3;
-    }
-    4
+    Offender::None
 }
 
 // Equal as numbers: +0 equals -0.

@@ -9,6 +9,7 @@ pub use axis::axis_of;
 pub use axis::first;
 pub use axis::next;
 pub use axis::step_of;
+pub use check::Offender;
 pub use check::first_offender;
 pub use check::same_ends;
 pub use check::sides_too_large;

@@ -45,3 +45,6 @@ decimal-1 n h = omega (arith, ap length (decimal-one n h))
 
 pub decimal-4 : (n : ℕ) → n < 10000 → length (decimal n) ≤ 4
 decimal-4 = longer 1000 3 (longer 100 2 (longer 10 1 decimal-1))
+
+pub decimal-5 : (n : ℕ) → n < 100000 → length (decimal n) ≤ 5
+decimal-5 = longer 10000 4 decimal-4

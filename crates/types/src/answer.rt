@@ -1,4 +1,4 @@
-// Answers that may be missing or refused. A refusal carries its number and nothing else.
+// Answers that may be missing or refused. A refusal carries its number, and its place where it tells one.
 use crate::shape::Aabb2;
 use crate::shape::Vec2;
 
@@ -57,4 +57,5 @@ pub enum Pixels {
 pub enum Listed {
     Count(usize),
     Refused(u32),
+    RefusedAt { number: u32, place: usize },
 }

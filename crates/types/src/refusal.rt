@@ -4,7 +4,7 @@
 pub const ROOM: u32 = 1;
 // Both ends of a stroke are equal.
 pub const SAME_ENDS: u32 = 2;
-// A coordinate is not finite, or too large.
+// A coordinate is above its limit in size, or for tiles not finite.
 pub const COORDINATE: u32 = 3;
 // A side of an image or a sheet is too large, or a tile size is 0 or too large.
 pub const SIZE: u32 = 4;
@@ -28,3 +28,5 @@ pub const COUNT: u32 = 12;
 pub const LENGTH: u32 = 13;
 // A list of lines is not a multiple of four floats.
 pub const LINES: u32 = 14;
+// A coordinate of a stroke is not finite.
+pub const NOT_FINITE: u32 = 15;

@@ -8,7 +8,7 @@
 //! ```
 
 use bagnoszyk::limits::{HATCH_FLOATS_MAX, LINE_RESULT_FLOATS};
-use bagnoszyk::{Aabb2, Interval, Refusal, Vec2, aabb, aabb2, edge2, hatch};
+use bagnoszyk::{Aabb2, Interval, Refusal, RefusalAt, Vec2, aabb, aabb2, edge2, hatch};
 use std::process::ExitCode;
 use std::{env, fs};
 
@@ -94,7 +94,7 @@ fn print_list(what: &str, list: &[u32]) {
     println!("{what}: {}", entries.join(" "));
 }
 
-fn run(bytes: &[u8]) -> Result<(), Refusal> {
+fn run(bytes: &[u8]) -> Result<(), RefusalAt> {
     let mut floats = vec![0.0; HATCH_FLOATS_MAX];
     let count = hatch::read_floats(bytes, &mut floats)?.count;
     let records = floats.chunks_exact(8).take(count).filter_map(<[f32]>::first_chunk);
@@ -108,6 +108,14 @@ fn run(bytes: &[u8]) -> Result<(), Refusal> {
     for (kind, from, to) in strokes {
         let count = edge2::overlapping_pixels_dda(8, 8, from.into(), to.into(), &mut list)?;
         print_list(&format!("{kind} stroke"), &list[..count]);
+    }
+
+    // A stroke to a point that is not there: refused, and the place tells which of the four coordinates it is.
+    let (start, nowhere) = (Vec2 { x: 0.5, y: 0.5 }, Vec2 { x: f32::NAN, y: 3.5 });
+    if let Err(RefusalAt { refusal, place: Some(place) }) =
+        edge2::overlapping_pixels_dda(8, 8, start, nowhere, &mut list)
+    {
+        println!("stroke refused: {} at {place}", refusal.number());
     }
 
     // A box on a sheet of 4 by 3 tiles of side 16.
@@ -129,8 +137,8 @@ fn main() -> ExitCode {
         eprintln!("usage: section FILE");
         return ExitCode::from(2);
     };
-    if let Err(refusal) = run(&bytes) {
-        eprintln!("refused {}: {refusal}", refusal.number());
+    if let Err(refused) = run(&bytes) {
+        eprintln!("refused {}: {refused}", refused.number());
         return ExitCode::FAILURE;
     }
     ExitCode::SUCCESS

@@ -1,4 +1,4 @@
-//! Document 01's hatch list, read plainly: what the library's reader is compared with, and timed against.
+//! Document 01's hatch list with document 02's places, read plainly: what the library's reader is compared with, and timed against.
 
 pub struct Records<'a> {
     pub version: usize,
@@ -7,22 +7,31 @@ pub struct Records<'a> {
     pub floats: &'a [[u8; 4]],
 }
 
-/// The records of a file, for a list with room for so many floats; or the number of a refusal.
-pub fn read(bytes: &[u8], room: usize) -> Result<Records<'_>, u32> {
+/// A refusal by its number, and the byte that it tells.
+pub struct Refused {
+    pub number: u32,
+    pub place: usize,
+}
+
+/// The records of a file, for a list with room for so many floats.
+pub fn read(bytes: &[u8], room: usize) -> Result<Records<'_>, Refused> {
+    let refused = |number, place| Err(Refused { number, place });
+    let length = |number, expected| refused(number, bytes.len().min(expected));
     if !bytes.starts_with(b"HSL") {
-        return Err(10);
+        return refused(10, 0);
     }
-    let (header, records) = bytes.split_at_checked(7).ok_or(13u32)?;
+    let Some((header, records)) = bytes.split_at_checked(7) else { return length(13, 7) };
     let number = |at: usize| usize::from(u16::from_le_bytes([header[at], header[at + 1]]));
     let (version, count) = (number(3), number(5));
+    let expected = 7 + 32 * count;
     if version != 1 {
-        Err(11)
+        refused(11, 3)
     } else if count > 2000 {
-        Err(12)
-    } else if records.len() != 32 * count {
-        Err(13)
+        refused(12, 5)
+    } else if bytes.len() != expected {
+        length(13, expected)
     } else if room < 8 * count {
-        Err(1)
+        length(1, expected)
     } else {
         Ok(Records { version, count, floats: records.as_chunks().0 })
     }

@@ -33,7 +33,7 @@ pub fn run(options: &Options) -> Result<(), String> {
     for (name, search) in searches {
         let start = Instant::now();
         if let Some(x) = search() {
-            let args = Args { floats: vec![x], wholes: vec![] };
+            let args = Args { floats: vec![x], ..Args::default() };
             let told = named(name)?.compare(&args);
             return Err(told.expect_err("the tables call the same functions"));
         }

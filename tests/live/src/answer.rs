@@ -6,14 +6,23 @@ pub const MOST_VALUES: usize = 9;
 /// The status of an answer that is none.
 const NONE: u32 = 255;
 
+/// A refusal by its number, and its place, 0 where it tells none.
+#[derive(Clone, Copy)]
+pub struct Refused {
+    pub number: u32,
+    pub place: u64,
+}
+
 #[derive(Clone, Debug, Default, PartialEq)]
 pub struct Answer {
     /// 0, 255 for none, or a refusal's number.
     pub status: u32,
+    /// That of a refusal which tells one.
+    pub place: u64,
     count: usize,
     /// Floats by their bits, whole numbers as they are, negative ones in two's complement.
     values: [u64; MOST_VALUES],
-    /// What was written to a lent list, floats by their bits; its count is the one number.
+    /// What was written to a lent list, floats by their bits; its count is the last number.
     pub list: Vec<u32>,
     /// A lent list was touched where it should not have been.
     pub damaged: bool,
@@ -23,6 +32,11 @@ impl Answer {
     /// An answer that has a status and nothing else.
     pub fn refused(status: u32) -> Self {
         Answer { status, ..Answer::default() }
+    }
+
+    /// A list whose count of entries, or of records, stands among the numbers.
+    pub fn with_list<const N: usize>(numbers: [u64; N], list: Vec<u32>) -> Self {
+        Answer { list, ..numbers.into() }
     }
 
     pub fn values(&self) -> [u64; MOST_VALUES] {
@@ -98,8 +112,7 @@ impl From<bool> for Answer {
 
 impl From<Vec<u32>> for Answer {
     fn from(list: Vec<u32>) -> Self {
-        let count = Answer::from(list.len() as u64);
-        Answer { list, ..count }
+        Answer::with_list([list.len() as u64], list)
     }
 }
 
@@ -115,9 +128,9 @@ impl<T: Into<Answer>> From<Option<T>> for Answer {
     }
 }
 
-/// The error is a refusal's number.
-impl<T: Into<Answer>> From<Result<T, u32>> for Answer {
-    fn from(answer: Result<T, u32>) -> Self {
-        answer.map_or_else(Answer::refused, T::into)
+impl<T: Into<Answer>> From<Result<T, Refused>> for Answer {
+    fn from(answer: Result<T, Refused>) -> Self {
+        let refused = |Refused { number, place }| Answer { place, ..Answer::refused(number) };
+        answer.map_or_else(refused, T::into)
     }
 }

@@ -4,14 +4,28 @@ use crate::answer::{Answer, MOST_VALUES, bits};
 use std::ffi::{CStr, CString, c_char, c_void};
 use std::{ptr, slice};
 
-/// The arguments of a request: its floats in their order, and its whole numbers in theirs, rooms among them.
+/// The arguments of a request: its floats in their order, its whole numbers in theirs, rooms among them, and its bytes.
 #[derive(Clone, Debug, Default)]
 pub struct Args {
     pub floats: Vec<f32>,
     pub wholes: Vec<u64>,
+    pub bytes: Vec<u8>,
 }
 
 impl Args {
+    /// As the table takes them. They are only read.
+    fn input(&self) -> c::Input {
+        let mut wholes = [0; MOST_WHOLES];
+        wholes[..self.wholes.len()].copy_from_slice(&self.wholes);
+        c::Input {
+            floats: self.floats.as_ptr().cast_mut(),
+            float_count: self.floats.len(),
+            wholes,
+            bytes: self.bytes.as_ptr().cast_mut(),
+            byte_count: self.bytes.len(),
+        }
+    }
+
     /// The float at a place.
     pub fn f(&self, at: usize) -> f32 {
         self.floats[at]
@@ -38,7 +52,11 @@ pub struct Routine {
     lists: *const c_char,
     gives: *const c_char,
     fields: *const c_char,
+    places: u32,
 }
+
+/// The most whole numbers that a request has.
+const MOST_WHOLES: usize = 8;
 
 /// What tests/ask/ask.h declares.
 mod c {
@@ -52,9 +70,24 @@ mod c {
     }
 
     #[repr(C)]
-    pub struct Reply {
+    pub struct Answer {
         pub status: u32,
+        pub place: u64,
         pub values: [Value; MOST_VALUES],
+    }
+
+    #[repr(C)]
+    pub struct Input {
+        pub floats: *mut f32,
+        pub float_count: usize,
+        pub wholes: [u64; MOST_WHOLES],
+        pub bytes: *mut u8,
+        pub byte_count: usize,
+    }
+
+    #[repr(C)]
+    pub struct Reply {
+        pub answer: Answer,
         pub list: *mut u32,
         pub damaged: bool,
     }
@@ -62,29 +95,19 @@ mod c {
     #[repr(C)]
     pub struct Request {
         pub routine: *const Routine,
-        pub floats: *mut f32,
-        pub float_count: usize,
-        pub wholes: [u64; 8],
+        pub input: Input,
         pub reason: [c_char; 200],
     }
 
     unsafe extern "C" {
         pub static routines: Routine;
         pub static routine_count: usize;
-        pub static ask_sizes: [usize; 3];
-        pub fn ask(
-            r: *const Routine,
-            floats: *const f32,
-            count: usize,
-            wholes: *const u64,
-        ) -> Reply;
+        pub static ask_sizes: [usize; 4];
+        pub fn ask(r: *const Routine, input: *const Input) -> Reply;
+        pub fn entries_written(r: *const Routine, answer: *const Answer) -> usize;
         pub fn read_request(line: *mut c_char, request: *mut Request) -> bool;
-        pub fn request_text(
-            r: *const Routine,
-            floats: *const f32,
-            count: usize,
-            wholes: *const u64,
-        ) -> *mut c_char;
+        pub fn free_request(request: *mut Request);
+        pub fn request_text(r: *const Routine, input: *const Input) -> *mut c_char;
         pub fn reply_text(r: *const Routine, reply: *const Reply, decimal: bool) -> *mut c_char;
         pub fn free(start: *mut c_void);
     }
@@ -92,7 +115,12 @@ mod c {
 
 /// The routines that have requests.
 pub fn all() -> impl Iterator<Item = &'static Routine> {
-    let sizes = [size_of::<Routine>(), size_of::<c::Reply>(), size_of::<c::Request>()];
+    let sizes = [
+        size_of::<Routine>(),
+        size_of::<c::Input>(),
+        size_of::<c::Reply>(),
+        size_of::<c::Request>(),
+    ];
     assert_eq!(sizes, unsafe { c::ask_sizes }, "the structs here and in tests/ask differ");
     let table = unsafe { slice::from_raw_parts(&raw const c::routines, c::routine_count) };
     table.iter().filter(|routine| !routine.name.is_null())
@@ -109,11 +137,13 @@ pub fn read(line: &str) -> Option<(&'static Routine, Args)> {
         let mut request: c::Request = std::mem::zeroed();
         let good = c::read_request(line, &mut request);
         drop(CString::from_raw(line));
+        let input = &request.input;
         let args = good.then(|| Args {
-            floats: slice::from_raw_parts(request.floats, request.float_count).to_vec(),
-            wholes: request.wholes.to_vec(),
+            floats: slice::from_raw_parts(input.floats, input.float_count).to_vec(),
+            wholes: input.wholes.to_vec(),
+            bytes: slice::from_raw_parts(input.bytes, input.byte_count).to_vec(),
         });
-        c::free(request.floats.cast());
+        c::free_request(&mut request);
         Some((request.routine.as_ref()?, args?))
     }
 }
@@ -141,20 +171,21 @@ impl Routine {
 
     /// The library's answer.
     pub fn ask(&self, args: &Args) -> Answer {
-        let (floats, wholes) = (&args.floats, &args.wholes);
-        let reply = unsafe { c::ask(self, floats.as_ptr(), floats.len(), wholes.as_ptr()) };
-        let mut answer = Answer::refused(reply.status);
+        let reply = unsafe { c::ask(self, &args.input()) };
+        let told = &reply.answer;
+        let mut answer = Answer::refused(told.status);
+        answer.place = told.place;
         answer.damaged = reply.damaged;
-        if !reply.damaged && reply.status == 0 {
-            for (letter, value) in self.gives().iter().zip(&reply.values) {
+        if !reply.damaged && told.status == 0 {
+            for (letter, value) in self.gives().iter().zip(&told.values) {
                 match letter {
                     b'f' => answer.push_float(unsafe { value.float }),
                     _ => answer.push(unsafe { value.whole }),
                 }
             }
             if !reply.list.is_null() {
-                let count = unsafe { reply.values[0].whole } as usize;
-                let list = unsafe { slice::from_raw_parts(reply.list, count) };
+                let list =
+                    unsafe { slice::from_raw_parts(reply.list, c::entries_written(self, told)) };
                 answer.list = list.iter().map(|entry| self.entry(*entry)).collect();
             }
         }
@@ -164,15 +195,15 @@ impl Routine {
 
     /// A request as a line.
     pub fn request(&self, args: &Args) -> String {
-        let (floats, wholes) = (&args.floats, &args.wholes);
-        owned(unsafe { c::request_text(self, floats.as_ptr(), floats.len(), wholes.as_ptr()) })
+        owned(unsafe { c::request_text(self, &args.input()) })
     }
 
     /// An answer of this routine as a line.
     pub fn show(&self, answer: &Answer) -> String {
-        let (status, damaged) = (answer.status, answer.damaged);
+        let (status, place, damaged) = (answer.status, answer.place, answer.damaged);
         let values = answer.values().map(|whole| c::Value { whole });
-        let reply = c::Reply { status, values, list: answer.list.as_ptr().cast_mut(), damaged };
+        let list = answer.list.as_ptr().cast_mut();
+        let reply = c::Reply { answer: c::Answer { status, place, values }, list, damaged };
         owned(unsafe { c::reply_text(self, ptr::from_ref(&reply), false) })
     }
 }

@@ -1,4 +1,4 @@
-//! Random inputs for each routine, hatch lists, and the tiles by brute force.
+//! Random inputs for each routine, the places of refusals, reports on hatch lists, and the tiles by brute force.
 
 use crate::cover;
 use crate::figures;
@@ -6,6 +6,7 @@ use crate::hatch;
 use crate::inputs::Inputs;
 use crate::options::Options;
 use crate::pairs::pairs;
+use crate::places;
 
 pub fn run(options: &Options) -> Result<(), String> {
     println!(
@@ -24,6 +25,7 @@ pub fn run(options: &Options) -> Result<(), String> {
     let total = pairs.len() as u64 * count;
     println!("{} routines, {total} inputs, no difference, seed {}", pairs.len(), options.seed);
     if options.only.is_empty() {
+        places::run()?;
         hatch::run(options.seed, count)?;
         cover::run(options)?;
     }

@@ -1,5 +1,6 @@
 //! Random inputs for a routine, the same ones for the same seed.
 
+mod file;
 mod floats;
 mod kinds;
 mod make;
@@ -7,12 +8,13 @@ mod source;
 mod touch;
 mod wholes;
 
+pub use file::hatch_list;
 pub use kinds::{Kind, mirror};
-pub use source::Source;
 
 use crate::ask::Args;
 use crate::judge::Row;
 use crate::random::Random;
+use source::Source;
 
 pub struct Inputs {
     row: &'static Row,
@@ -63,6 +65,7 @@ impl Inputs {
     fn make(&mut self) {
         self.args.floats.clear();
         self.args.wholes.clear();
+        self.args.bytes.clear();
         let source = Source::random(&mut self.random);
         for kind in self.row.shape {
             make::make(*kind, source, &mut self.random, &mut self.args);

@@ -11,6 +11,7 @@ mod inputs;
 mod judge;
 mod options;
 mod pairs;
+mod places;
 mod random;
 mod tally;
 mod vectors;

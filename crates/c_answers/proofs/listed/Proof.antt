@@ -7,6 +7,7 @@ use Rattle.c_answers.proofs.listed.Tie as tie
 pub listed-spec : {M : Type 1} → statement M
 unfolding ofListed
 listed-spec = tie.close (tie.spec
-    (λ c. search needs) (λ c. search needs)
+    (λ c. search needs) (λ c. search needs) (λ c. search needs)
     (λ c. rw (c .before .a .given .1, c .known-told .given .1))
-    (λ c. rw (c .before .a2 .given .1, c .known-told2 .given .1)))
+    (λ c. rw (c .before .a2 .given .1, c .known-told2 .given .1))
+    (λ c. rw (c .before .a3 .given .1, c .known-told3 .given .1)))

@@ -1,5 +1,8 @@
 -- `hatch_read::head_within` meets its contract: eight floats a record have room where the count is at most an eighth. Assumes nothing.
+use mathlib.Core.Path.{sym, _∙_}
 use borrow.Author.Needs.{needs}
+use Rattle.hatch_format.specs.Format.{hsl}
+use Rattle.hatch_format.proofs.Records.{held}
 use Rattle.hatch_read.proofs.Room.{stays-refused, no-room, has-room}
 use Rattle.hatch_read.proofs.head_within.Statement.{statement}
 use Rattle.hatch_read.proofs.head_within.Tie as tie
@@ -10,7 +13,9 @@ returns c = stays-refused _ (c .before .before .before .head-of .ensures) (c .be
 returns-2 : tie.Need-returns-2
 returns-2 c =
     let accepted = c .before .before in
-    no-room _ (accepted .before .before .head-of .ensures) (accepted .row .given .1) (c .if1 .taken)
+    let head = accepted .before .before .head-of in
+    let whole = held hsl _ _ _ (sym (head .ensures) ∙ accepted .row .given .1) .whole in
+    no-room _ (head .ensures) (accepted .row .given .1) whole (c .if1 .taken)
 
 returns-3 : tie.Need-returns-3
 returns-3 c =

@@ -26,10 +26,13 @@ pub enum Kind {
     Stroke,
     /// A box, the size of a tile, width and height of a sheet, room.
     Tiles,
+    /// Room, and the bytes of a hatch list.
+    File,
 }
 
 impl Kind {
-    /// A letter for each of its numbers: f is a float, u a whole number, r the room of a list, F a list of floats.
+    /// A letter for each of its numbers: f is a float, u a whole number, r the room of a list, F a list of floats, B of
+    /// bytes.
     pub fn takes(self) -> &'static str {
         match self {
             Kind::Float | Kind::Radius => "f",
@@ -42,6 +45,7 @@ impl Kind {
             Kind::Lines => "rF",
             Kind::Stroke => "uuffffr",
             Kind::Tiles => "ffffuuur",
+            Kind::File => "rB",
         }
     }
 

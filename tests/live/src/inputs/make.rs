@@ -1,6 +1,7 @@
 //! Making an argument of a kind.
 
 use super::Kind;
+use super::file;
 use super::source::Source;
 use super::wholes;
 use crate::ask::Args;
@@ -8,6 +9,9 @@ use crate::random::Random;
 
 /// Adds an argument.
 pub fn make(kind: Kind, source: Source, random: &mut Random, args: &mut Args) {
+    if kind == Kind::File {
+        return file::make(source, random, args);
+    }
     let start = args.floats.len();
     for _ in 0..kind.floats().unwrap_or_else(|| list_length(kind, random)) {
         let float = source.float(&args.floats, random);

@@ -1,6 +1,7 @@
 //! aabb.rs, at two dimensions.
 
 use super::{Row, limits, row};
+use crate::answer::Refused;
 use crate::ask::Args;
 use crate::inputs::Kind::{Box, Direction, Lines, Point};
 use del_geo_core::aabb;
@@ -22,7 +23,7 @@ pub const ROWS: &[Row] = &[
 ];
 
 /// The Rust has no routine for a whole face: its line routine for each line in turn.
-fn lines(a: &Args) -> Result<Vec<f32>, u32> {
+fn lines(a: &Args) -> Result<Vec<f32>, Refused> {
     let (lines, rest) = a.floats[4..].as_chunks();
     limits::lines(rest.len())?;
     let results: Vec<f32> = lines.iter().flat_map(|line| result(&a.fs(0), line)).collect();

@@ -1,7 +1,7 @@
 //! aabb2.rs
 
 use super::{Row, limits, row};
-use crate::answer::Answer;
+use crate::answer::{Answer, Refused};
 use crate::ask::Args;
 use crate::inputs::Kind::{Box, Float, Floats, Index, Matrix, Point, Radius, Side, Tiles};
 use del_geo_core::aabb2;
@@ -56,7 +56,7 @@ fn add_point(a: &Args) -> Answer {
     corners.into()
 }
 
-fn rasterize(a: &Args) -> Result<[u64; 4], u32> {
+fn rasterize(a: &Args) -> Result<[u64; 4], Refused> {
     limits::rasterize(a.u(0), a.u(1))?;
     let image = (a.u(0) as usize, a.u(1) as usize);
     Ok(aabb2::rasterize::<f32>(&a.fs(0), &image).map(|n| n as u64))
@@ -68,7 +68,7 @@ fn maximum_is_settled(a: &Args) -> bool {
     x != 0.0 || y != 0.0 || x.is_sign_negative() == y.is_sign_negative()
 }
 
-fn tiles(a: &Args) -> Result<Vec<u32>, u32> {
+fn tiles(a: &Args) -> Result<Vec<u32>, Refused> {
     let (corners, size, shape) = (a.fs(0), a.u(0), (a.u(1), a.u(2)));
     limits::tiles(&corners, size, shape.0, shape.1)?;
     let shape = (shape.0 as usize, shape.1 as usize);

@@ -1,7 +1,7 @@
 //! edge2.rs
 
 use super::{Row, limits, row};
-use crate::answer::Answer;
+use crate::answer::{Answer, Refused};
 use crate::ask::Args;
 use crate::inputs::Kind::{Box, Float, Point, Stroke};
 use del_geo_core::edge2;
@@ -44,7 +44,7 @@ fn length_in_box(a: &Args) -> Answer {
     edge2::intersection_length_against_aabb2(&a.fs(0), &a.fs(2), &a.fs(4)).into()
 }
 
-fn stroke(a: &Args) -> Result<Vec<u32>, u32> {
+fn stroke(a: &Args) -> Result<Vec<u32>, Refused> {
     limits::stroke(a.u(0), a.u(1), &a.fs(0))?;
     let image = (a.u(0) as usize, a.u(1) as usize);
     let entries = edge2::overlapping_pixels_dda::<f32>(image, &a.fs(0), &a.fs(2));

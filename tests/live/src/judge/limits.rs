@@ -4,6 +4,8 @@
 //! Where the table follows the Rust's panics (5 to 9), a row of the judge says which number a panic
 //! has.
 
+use crate::answer::Refused;
+
 pub const ROOM: u32 = 1;
 pub const SAME_ENDS: u32 = 2;
 pub const COORDINATE: u32 = 3;
@@ -14,38 +16,49 @@ pub const NAN_LENGTH: u32 = 7;
 pub const NO_IMAGE: u32 = 8;
 pub const INDEX: u32 = 9;
 pub const LINES: u32 = 14;
+pub const NOT_FINITE: u32 = 15;
 
 /// The largest side of an image or of a sheet.
 const SIDE: u64 = 16_384;
 
-/// `overlapping_pixels_dda`: 4, 3, 2; `room` is the 1.
-pub fn stroke(width: u64, height: u64, ends: &[f32; 4]) -> Result<(), u32> {
+/// What a check gives: nothing, or a refusal.
+type Checked = Result<(), Refused>;
+
+/// `overlapping_pixels_dda`: 4; 15 or 3, told with the place of the first coordinate that is either; 2; `room` is the 1.
+pub fn stroke(width: u64, height: u64, ends: &[f32; 4]) -> Checked {
     refuse(width > SIDE || height > SIDE, SIZE)?;
-    refuse(!ends.iter().all(|x| x.abs() <= 65_536.0), COORDINATE)?;
+    for (place, x) in (0..).zip(ends) {
+        refuse_at(!x.is_finite(), NOT_FINITE, place)?;
+        refuse_at(x.abs() > 65_536.0, COORDINATE, place)?;
+    }
     refuse(ends[..2] == ends[2..], SAME_ENDS)
 }
 
 /// `overlapping_tiles`: 4, 3; `room` is the 1.
-pub fn tiles(corners: &[f32; 4], size: u64, width: u64, height: u64) -> Result<(), u32> {
+pub fn tiles(corners: &[f32; 4], size: u64, width: u64, height: u64) -> Checked {
     refuse(size == 0 || size > 4_096 || width > SIDE || height > SIDE, SIZE)?;
     refuse(!corners.iter().all(|x| x.abs() <= 1_048_576.0), COORDINATE)
 }
 
 /// `rasterize`: 4.
-pub fn rasterize(width: u64, height: u64) -> Result<(), u32> {
+pub fn rasterize(width: u64, height: u64) -> Checked {
     refuse(width > SIDE || height > SIDE, SIZE)
 }
 
 /// `intersections_against_lines`, by the floats after the last whole line: 14; `room` is the 1.
-pub fn lines(rest: usize) -> Result<(), u32> {
+pub fn lines(rest: usize) -> Checked {
     refuse(rest != 0, LINES)
 }
 
 /// A lent list: 1.
-pub fn room(entries: usize, room: u64) -> Result<(), u32> {
+pub fn room(entries: usize, room: u64) -> Checked {
     refuse(entries as u64 > room, ROOM)
 }
 
-fn refuse(when: bool, number: u32) -> Result<(), u32> {
-    if when { Err(number) } else { Ok(()) }
+fn refuse(when: bool, number: u32) -> Checked {
+    refuse_at(when, number, 0)
+}
+
+fn refuse_at(when: bool, number: u32, place: u64) -> Checked {
+    if when { Err(Refused { number, place }) } else { Ok(()) }
 }

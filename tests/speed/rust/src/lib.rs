@@ -42,7 +42,7 @@ pub unsafe extern "C" fn intersections_against_lines(
             None => [0.0; 3],
         };
     }
-    CountAnswer { status: ANSWERED, count: 3 * lines.len() }
+    CountAnswer { status: ANSWERED, count: 3 * lines.len(), place: 0 }
 }
 
 /// # Safety
@@ -127,9 +127,11 @@ pub unsafe extern "C" fn read_floats(
             for (place, &float) in list.iter_mut().zip(floats) {
                 *place = f32::from_le_bytes(float);
             }
-            ReadAnswer { status: ANSWERED, version, count }
+            ReadAnswer { status: ANSWERED, version, count, place: 0 }
         }
-        Err(status) => ReadAnswer { status, version: 0, count: 0 },
+        Err(hatch_list::Refused { number: status, place }) => {
+            ReadAnswer { status, version: 0, count: 0, place }
+        }
     }
 }
 
@@ -137,5 +139,5 @@ fn copied(entries: impl Iterator<Item = usize>, count: usize, list: &mut [u32]) 
     for (place, entry) in list[..count].iter_mut().zip(entries) {
         *place = entry as u32;
     }
-    CountAnswer { status: ANSWERED, count }
+    CountAnswer { status: ANSWERED, count, place: 0 }
 }

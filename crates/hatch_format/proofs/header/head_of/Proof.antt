@@ -19,7 +19,7 @@ marked : (c : tie.Else1) → startsWith (now (c .before .before .before .before 
 marked c = sym (c .before .starts-with .ensures) ∙ not-false _ (c .if1 .left)
 
 returns-2 : tie.Need-returns-2
-returns-2 c = too-short _ rows _ (marked (c .before)) (c .if2 .taken)
+returns-2 c = c .wrong-length .ensures ∙ too-short _ rows _ (marked (c .before .before)) (c .before .if2 .taken)
 
 sized-requires : tie.Need-sized-requires
 sized-requires c κs =
@@ -48,5 +48,5 @@ returns-4 c =
 
 pub head-of-spec : {M : Type 1} → statement M
 head-of-spec = tie.close (tie.spec
-    (λ c κs. search needs) returns returns-2 (λ c κs. search needs) (λ c κs. search needs) (λ c κs. search needs)
+    (λ c κs. search needs) returns (λ c κs. search needs) returns-2 (λ c κs. search needs) (λ c κs. search needs) (λ c κs. search needs)
     (λ c. search needs) (λ c. search needs) sized-requires returns-3 returns-4)

@@ -1,55 +1,45 @@
--- `stroke::first_offender` meets its contract: each answer by the tests that led there. Assumes nothing.
-use mathlib.Core.Path.{_≡_, sym, _∙_}
-use mathlib.Core.Bool.{true}
+-- `stroke::first_offender` meets its contract: each turn leaves one coordinate less to look at. Assumes nothing.
+use mathlib.Core.Path.{sym, ap, _∙_}
+use Prim.Native.Nat.{ℕ, _≤_, _-_}
+use native.Mathlib.Omega.{arith}
 use borrow.Author.Needs.{needs}
 use borrow.Author.Tests.{not-true, not-false}
-use Rattle.stroke.specs.Check.{withinLimit, firstOffender}
+use lib.ListN.{length}
+use Rattle.stroke.specs.declared.check.Offender.the-variants.{Found}
+use Rattle.stroke.proofs.Offenders.{Left, left-none, left-more, left-found, left-end}
 use Rattle.stroke.proofs.check.first_offender.Statement.{statement}
 use Rattle.stroke.proofs.check.first_offender.Tie as tie
 
--- what is known past each test
-x0 : (c : tie.Else1) → withinLimit (c .before .before .args .p0 .x) ≡ true
-x0 c = sym (c .before .within-limit .ensures) ∙ not-false _ (c .if1 .left)
+abbrev Inv-loop : tie.InvT-loop
+Inv-loop coordinates place₀ place = (place ≤ length coordinates) × Left coordinates place
 
-y0 : (c : tie.Else2) → withinLimit (c .before .before .before .before .args .p0 .y) ≡ true
-y0 c = sym (c .before .within-limit2 .ensures) ∙ not-false _ (c .if2 .left)
+abbrev μ-loop : tie.MeasureT-loop
+μ-loop coordinates place₀ place = length coordinates - place
 
-x1 : (c : tie.Else3) → withinLimit (c .before .before .before .before .before .before .args .p1 .x) ≡ true
-x1 c = sym (c .before .within-limit3 .ensures) ∙ not-false _ (c .if3 .left)
+loop-holds : tie.Need-loop-holds Inv-loop μ-loop
+loop-holds c = (search needs, left-none _)
 
-returns : tie.Need-returns
-unfolding firstOffender
-returns c = rw (sym (c .before .within-limit .ensures) ∙ not-true _ (c .if1 .taken))
+returns : tie.Need-returns Inv-loop μ-loop
+returns c =
+    let test = c .before in
+    let turn = test .before .before .before in
+    let at = turn .before in
+    let beyond = sym (test .before .within-limit .ensures) ∙ not-true _ (test .if1 .taken) in
+    ap (λ (number : ℕ). Found number (at .loop .place)) (c .number-of .ensures)
+    ∙ left-found _ (at .loop .place) (turn .loop-test .taken) (at .loop .inv .1) beyond
 
-returns-2 : tie.Need-returns-2
-unfolding firstOffender
-returns-2 c = rw (x0 (c .before .before), sym (c .before .within-limit2 .ensures) ∙ not-true _ (c .if2 .taken))
+loop-again : tie.Need-loop-again Inv-loop μ-loop
+loop-again c =
+    let turn = c .before .before .before in
+    let at = turn .before in
+    let within = sym (c .before .within-limit .ensures) ∙ not-false _ (c .if1 .left) in
+    (omega arith, left-more _ (at .loop .place) (turn .loop-test .taken) (at .loop .inv .1) within)
 
-returns-3 : tie.Need-returns-3
-unfolding firstOffender
-returns-3 c = rw (x0 (c .before .before .before .before), y0 (c .before .before), sym (c .before .within-limit3 .ensures) ∙ not-true _ (c .if3 .taken))
-
-returns-4 : tie.Need-returns-4
-unfolding firstOffender
-returns-4 c =
-    rw (
-      x0 (c .before .before .before .before .before .before),
-      y0 (c .before .before .before .before),
-      x1 (c .before .before),
-      sym (c .before .within-limit4 .ensures) ∙ not-true _ (c .if4 .taken),
-    )
-
-returns-5 : tie.Need-returns-5
-unfolding firstOffender
-returns-5 c =
-    rw (
-      x0 (c .before .before .before .before .before .before),
-      y0 (c .before .before .before .before),
-      x1 (c .before .before),
-      sym (c .before .within-limit4 .ensures) ∙ not-false _ (c .if4 .left),
-    )
+returns-2 : tie.Need-returns-2 Inv-loop μ-loop
+returns-2 c = left-end _ (c .before .loop .place) (c .loop-test .left) (c .before .loop .inv .1)
 
 pub first-offender-spec : {M : Type 1} → statement M
 first-offender-spec = tie.close (tie.spec
-    (λ c κs. search needs) returns (λ c κs. search needs) returns-2 (λ c κs. search needs) returns-3 (λ c κs. search needs)
-    returns-4 returns-5)
+    Inv-loop μ-loop loop-holds
+    (λ c. omega arith) (λ c. omega arith) (λ c κs. search needs) (λ c κs. search needs) returns
+    (λ c. omega arith) (λ c. omega arith) loop-again returns-2)
