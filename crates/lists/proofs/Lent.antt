@@ -14,7 +14,7 @@ use Rattle.lists.specs.Lent.{fitted}
 pub no-count : {A : Type 0} (k n : ℕ) → Refused k ≡ Count n → A
 no-count k n e = absurd (let z : _≡_ {A = ℕ} 0 1 = cc in let y : ⊥ = omega arith in y)
 
--- and nor is one that tells a place
+-- nor is one that tells a place
 pub no-count-at : {A : Type 0} (k place n : ℕ) → RefusedAt k place ≡ Count n → A
 no-count-at k place n e = absurd (let z : _≡_ {A = ℕ} 0 1 = cc in let y : ⊥ = omega arith in y)
 
