@@ -7,7 +7,7 @@ pub struct Records<'a> {
     pub floats: &'a [[u8; 4]],
 }
 
-/// A refusal by its number, and the byte that it tells.
+/// A refusal by its number, and its place: of a file the byte.
 pub struct Refused {
     pub number: u32,
     pub place: usize,

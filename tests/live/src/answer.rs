@@ -1,17 +1,13 @@
 //! An answer, the library's or the Rust's, such that equal answers compare equal: all zeros are one, and all NaNs.
 
+/// A refusal; its place is 0 where it tells none.
+pub use hatch_list::Refused;
+
 /// The most numbers that an answer has: a 3 by 3 matrix.
 pub const MOST_VALUES: usize = 9;
 
 /// The status of an answer that is none.
 const NONE: u32 = 255;
-
-/// A refusal by its number, and its place, 0 where it tells none.
-#[derive(Clone, Copy)]
-pub struct Refused {
-    pub number: u32,
-    pub place: u64,
-}
 
 #[derive(Clone, Debug, Default, PartialEq)]
 pub struct Answer {
@@ -130,7 +126,7 @@ impl<T: Into<Answer>> From<Option<T>> for Answer {
 
 impl<T: Into<Answer>> From<Result<T, Refused>> for Answer {
     fn from(answer: Result<T, Refused>) -> Self {
-        let refused = |Refused { number, place }| Answer { place, ..Answer::refused(number) };
+        let refused = |r: Refused| Answer { place: r.place as u64, ..Answer::refused(r.number) };
         answer.map_or_else(refused, T::into)
     }
 }

@@ -14,13 +14,8 @@ pub const ROWS: &[Row] = &[
 
 /// Version and count, and the words of the records, each through `entry`.
 fn read(a: &Args, entry: fn(u32) -> u32) -> Result<Answer, Refused> {
-    let room = a.u(0).try_into().unwrap();
-    match hatch_list::read(&a.bytes, room) {
-        Ok(records) => {
-            let words = records.floats.iter().map(|word| entry(u32::from_le_bytes(*word)));
-            let numbers = [records.version as u64, records.count as u64];
-            Ok(Answer::with_list(numbers, words.collect()))
-        }
-        Err(hatch_list::Refused { number, place }) => Err(Refused { number, place: place as u64 }),
-    }
+    let records = hatch_list::read(&a.bytes, a.u(0).try_into().unwrap())?;
+    let words = records.floats.iter().map(|word| entry(u32::from_le_bytes(*word)));
+    let numbers = [records.version as u64, records.count as u64];
+    Ok(Answer::with_list(numbers, words.collect()))
 }

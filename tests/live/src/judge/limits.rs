@@ -27,7 +27,7 @@ type Checked = Result<(), Refused>;
 /// `overlapping_pixels_dda`: 4; 15 or 3, told with the place of the first coordinate that is either; 2; `room` is the 1.
 pub fn stroke(width: u64, height: u64, ends: &[f32; 4]) -> Checked {
     refuse(width > SIDE || height > SIDE, SIZE)?;
-    for (place, x) in (0..).zip(ends) {
+    for (place, x) in ends.iter().enumerate() {
         refuse_at(!x.is_finite(), NOT_FINITE, place)?;
         refuse_at(x.abs() > 65_536.0, COORDINATE, place)?;
     }
@@ -59,6 +59,6 @@ fn refuse(when: bool, number: u32) -> Checked {
     refuse_at(when, number, 0)
 }
 
-fn refuse_at(when: bool, number: u32, place: u64) -> Checked {
+fn refuse_at(when: bool, number: u32, place: usize) -> Checked {
     if when { Err(Refused { number, place }) } else { Ok(()) }
 }
