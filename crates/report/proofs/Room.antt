@@ -25,13 +25,10 @@ end-length : (x : Float) → length (endOf x) ≡ 9
 unfolding endOf hex8
 end-length x = refl
 
-field-length : (n : ℕ) → n < 10000 → length (fieldOf n) ≤ 5
+-- the space, and at most k digits
+field-length : (n k : ℕ) → length (decimal n) ≤ k → length (fieldOf n) ≤ suc k
 unfolding fieldOf
-field-length n h = omega (arith, decimal-4 n h)
-
-place-length : (n : ℕ) → n < 100000 → length (fieldOf n) ≤ 6
-unfolding fieldOf
-place-length n h = omega (arith, decimal-5 n h)
+field-length n k h = omega arith
 
 line-length : (i : ℕ) (t : Interval) → i < 10000 → length (lineOf i t) ≤ 27
 unfolding lineOf
@@ -65,8 +62,8 @@ text-length (refused k place) s =
       arith,
       length-append (fieldOf k) (fieldOf place ++ ascii "\n"),
       length-append (fieldOf place) (ascii "\n"),
-      field-length k (omega (arith, s .0)),
-      place-length place (omega (arith, s .1)),
+      field-length k 4 (decimal-4 k (omega (arith, s .0))),
+      field-length place 5 (decimal-5 place (omega (arith, s .1))),
     )
 text-length (accepted v n ps) s =
     omega (
@@ -74,8 +71,8 @@ text-length (accepted v n ps) s =
       length-append (openingOf v n) (linesOf (map floatOf ps) n),
       length-append (fieldOf v) (fieldOf n ++ ascii "\n"),
       length-append (fieldOf n) (ascii "\n"),
-      field-length v (s .0),
-      field-length n (omega (arith, s .1)),
+      field-length v 4 (decimal-4 v (s .0)),
+      field-length n 4 (decimal-4 n (omega (arith, s .1))),
       lines-length (map floatOf ps) n (s .1),
       s .1,
     )
