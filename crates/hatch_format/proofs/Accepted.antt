@@ -1,5 +1,5 @@
--- Which headers are accepted, for any mark and any table: both ways. Assumes nothing.
-use mathlib.Core.Path.{_≡_, refl, ap, _∙_, subst}
+-- Which headers are accepted, for any mark and any table: both ways. And what an accepted file says. Assumes nothing.
+use mathlib.Core.Path.{_≡_, refl, sym, ap, _∙_, subst}
 use mathlib.Core.Bool.{Bool, true, false, cond}
 use mathlib.Core.List.{List}
 use Prim.Native.Nat.{ℕ, _+_, _*_, _≤_}
@@ -9,9 +9,11 @@ use lib.ListN.{length}
 use borrow.Author.Tests.{ltb-false, eqb-true, le-ltb, eq-eqb}
 use Rattle.hatch_format.specs.Bytes.{halfAt, startsWith}
 use Rattle.hatch_format.specs.Format.{layoutOf, expectedLength, wrongLength, sizedOf, versionedOf, headOf}
+use Rattle.hatch_format.specs.Decode.{patternsOf, accepted, bodyOf, decode}
 use Rattle.hatch_format.specs.declared.header.Row.{Row}
 use Rattle.hatch_format.specs.declared.header.Layout.{Layout}
 use Rattle.hatch_format.specs.declared.header.Layout.the-variants.{Unknown, Known}
+use Rattle.hatch_format.specs.declared.header.Head.{Head}
 use Rattle.hatch_format.specs.declared.header.Head.the-variants.{Refused, Accepted}
 
 -- the bytes b are a file with this mark: n records of the version whose row in the table is r
@@ -69,3 +71,21 @@ module _ (mark : List ℕ) (table : List Row) (b : List ℕ) (r : Row) (n : ℕ)
   unfolding headOf versionedOf sizedOf
   file-accepted f =
       rw (f .marked, le-ltb (length b) 7 (omega (arith, f .whole)), f .row, f .count, le-ltb (r .limit) n (f .few), eq-eqb (length b) (7 + r .width * n) (f .whole))
+
+-- a file that is accepted: the row of its version, and the bits of its floats
+pub record Taken (mark : List ℕ) (table : List Row) (b : List ℕ) (v n : ℕ) (ps : List ℕ) : Type 0 where
+  pub row : Row
+  pub is : headOf mark table b ≡ Accepted row n
+  pub version : row .version ≡ v
+  pub patterns : patternsOf (row .width) b n ≡ ps
+
+pub taken : (mark : List ℕ) (table : List Row) (b : List ℕ) (v n : ℕ) (ps : List ℕ) → decode mark table b ≡ accepted v n ps → Taken mark table b v n ps
+unfolding decode bodyOf
+taken mark table b v n ps e = go (headOf mark table b) refl e
+  where
+    go : (h : Head) → headOf mark table b ≡ h → bodyOf h b ≡ accepted v n ps → Taken mark table b v n ps
+    go (Refused k place) x e = absurd (let z : _≡_ {A = ℕ} 0 1 = cc in omega arith)
+    go (Accepted r m) x e =
+        let count : m ≡ n = cc in
+        let says : patternsOf (r .width) b m ≡ ps = cc in
+        record { row = r; is = x ∙ ap (Accepted r) count; version = cc; patterns = ap (patternsOf (r .width) b) (sym count) ∙ says }

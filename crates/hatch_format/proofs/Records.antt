@@ -2,18 +2,19 @@
 use mathlib.Core.Path.{_≡_, refl, sym, ap, _∙_}
 use mathlib.Core.Bool.{Bool, true, false, cond}
 use mathlib.Core.List.{List, map}
-use Prim.Native.Nat.{ℕ, _+_, _*_, _/_, _%_, _<_, _≤_}
+use Prim.Native.Nat.{ℕ, _+_, _*_, _-_, _/_, _%_, _<_, _≤_}
 use native.Mathlib.Omega.{arith}
 use native.Mathlib.Nat.{mul-le-mul-left, mul-add, mul-one}
 use lib.Dec.{ltb}
-use lib.ListN.{length, getD, replicate}
+use lib.ListN.{length, getD, take, drop, replicate, length-drop}
+use lib.Seq.{getD-take, getD-drop, length-take-le}
 use borrow.Author.Tests.{le-ltb}
 use Rattle.lists.specs.Places.{upto}
-use Rattle.lists.proofs.Entries.{getD-upto, getD-mapped}
+use Rattle.lists.proofs.Entries.{getD-upto, getD-mapped, listed}
 use Rattle.lists.proofs.Fill.{length-upto}
 use Rattle.hatch_format.specs.Bytes.{halfAt, wordFrom}
-use Rattle.hatch_format.specs.Format.{rows, headOf}
-use Rattle.hatch_format.specs.Decode.{recordPlace, patternAt, patternsOf, recordBitsOf, Holds}
+use Rattle.hatch_format.specs.Format.{rows, recordPlace, headOf}
+use Rattle.hatch_format.specs.Decode.{patternAt, patternsOf, recordBitsOf, Holds}
 use Rattle.hatch_format.specs.declared.header.Row.{Row}
 use Rattle.hatch_format.specs.declared.header.Head.the-variants.{Accepted}
 use Rattle.hatch_format.proofs.Table.{Fine, fine, found}
@@ -32,6 +33,33 @@ record-length b at = go (ltb (length b) (at + 32))
     go : (t : Bool) → length (cond t (replicate 8 0) (upto (wordFrom b at) 8)) ≡ 8
     go true = refl
     go false = length-upto (wordFrom b at) 8
+
+-- the record of a part of 32 bytes is that of the bytes from there on
+module _ (b : List ℕ) (at : ℕ) (inside : at + 32 ≤ length b) where
+  byte : (q p : ℕ) → q < 32 → at + q ≡ p → getD (take 32 (drop at b)) q 0 ≡ getD b p 0
+  byte q p h e = getD-take 32 (drop at b) q 0 h ∙ getD-drop at b q 0 ∙ ap (λ (k : ℕ). getD b k 0) e
+
+  part-word : (j : ℕ) → j < 8 → wordFrom (take 32 (drop at b)) 0 j ≡ wordFrom b at j
+  part-word j h =
+      omega (
+        arith,
+        byte (0 + 4 * j) (at + 4 * j) (omega arith) (omega arith),
+        byte (0 + 4 * j + 1) (at + 4 * j + 1) (omega arith) (omega arith),
+        byte (0 + 4 * j + 2) (at + 4 * j + 2) (omega arith) (omega arith),
+        byte (0 + 4 * j + 3) (at + 4 * j + 3) (omega arith) (omega arith),
+      )
+
+  pub part-bits : recordBitsOf (take (at + 32 - at) (drop at b)) 0 ≡ recordBitsOf b at
+  unfolding recordBitsOf
+  part-bits =
+      let size : at + 32 - at ≡ 32 = omega arith in
+      let part = take 32 (drop at b) in
+      let long : length (take 32 (drop at b)) ≡ 32 = length-take-le 32 (drop at b) (omega (arith, length-drop at b)) in
+      let eight = length-upto (wordFrom part 0) 8 in
+      let same = listed 0 (wordFrom b at) (upto (wordFrom part 0) 8) λ j g.
+      let few : j < 8 = omega (arith, eight) in
+      getD-upto (wordFrom part 0) 0 8 j few ∙ part-word j few in
+      rw (size, le-ltb (length part) (0 + 32) (omega (arith, long)), le-ltb (length b) (at + 32) inside) (same ∙ ap (upto (wordFrom b at)) eight)
 
 module _ (width n : ℕ) (b : List ℕ) (h : Holds width n b) (i : ℕ) (g : i < n) where
   -- record i lies within the file

@@ -24,6 +24,14 @@ found P (s ∷ table) v r h e = go (eqb (s .version) v) refl e (found P table v 
     go true t e later = let is : s ≡ r = cc in (subst P is (h .0), subst (λ (q : Row). q .version ≡ v) is (eqb-true (s .version) v t))
     go false t e later = later e
 
+pub found-version : (table : List Row) (v : ℕ) (r : Row) → layoutOf table v ≡ Known r → r .version ≡ v
+unfolding Each
+found-version table v r e = found (λ (_ : Row). Unit) table v r (each-row table) e .1
+  where
+    each-row : (t : List Row) → Each (λ (_ : Row). Unit) t
+    each-row [] = tt
+    each-row (r ∷ t) = (tt, each-row t)
+
 -- what is relied on of a version: a record holds its eight floats, a length fits and is at most 64,007, and a report has room in 54,014 bytes
 pub record Fine (r : Row) : Type 0 where
   pub digits : r .version < 10000

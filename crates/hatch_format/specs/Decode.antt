@@ -8,14 +8,14 @@ use lib.ListN.{length, replicate}
 use lib.Ieee.{Float, binary32, ofBits}
 use Rattle.lists.specs.Places.{upto}
 use Rattle.hatch_format.specs.Bytes.{wordFrom}
-use Rattle.hatch_format.specs.Format.{headOf}
+use Rattle.hatch_format.specs.Format.{recordPlace, headOf}
 use Rattle.hatch_format.specs.declared.header.Row.{Row}
 use Rattle.hatch_format.specs.declared.header.Head.{Head}
 use Rattle.hatch_format.specs.declared.header.Head.the-variants.{Refused, Accepted}
 
--- where record i starts
-abbrev pub recordPlace : ℕ → ℕ → ℕ
-recordPlace width i = 7 + width * i
+-- "In memory records are a list of floats, eight each; an incomplete last one does not count": of floats, or of their bits
+abbrev pub recordCountOf : {A : Type 0} → List A → ℕ
+recordCountOf l = length l / 8
 
 -- float k of the file, as its bits: a record starts with its eight floats
 abbrev pub patternAt : ℕ → List ℕ → ℕ → ℕ
@@ -25,7 +25,10 @@ patternAt width b k = wordFrom b (recordPlace width (k / 8)) (k % 8)
 abbrev pub patternsOf : ℕ → List ℕ → ℕ → List ℕ
 patternsOf width b n = upto (patternAt width b) (8 * n)
 
--- the float whose bits these are
+-- how a list takes the bits of a float: a list of bits as they are, a list of floats as the float whose bits they are
+abbrev pub itself : ℕ → ℕ
+itself p = p
+
 abbrev pub floatOf : ℕ → Float
 floatOf p = ofBits binary32 p
 

@@ -17,17 +17,25 @@ use Rattle.hatch_format.specs.declared.header.Head.the-variants.{Refused
 abbrev pub hsl : List ℕ
 hsl = 72 ∷ 83 ∷ 76 ∷ []
 
--- the versions: the bytes of a record, and the most records
+-- a version: the bytes of one of its records, and the most records
+abbrev pub versionOne : Row
+versionOne = record { version = 1; width = 32; limit = 2000 }
+
+-- the versions that are read
 abbrev pub rows : List Row
-rows = record { version = 1; width = 32; limit = 2000 } ∷ []
+rows = versionOne ∷ []
 
 unfoldable pub layoutOf : List Row → ℕ → Layout
 layoutOf [] v = Unknown
 layoutOf (r ∷ rs) v = cond (eqb (r .version) v) (Known r) (layoutOf rs v)
 
--- header and records together
+-- where record i starts
+abbrev pub recordPlace : ℕ → ℕ → ℕ
+recordPlace width i = 7 + width * i
+
+-- header and n records together: where another record would start
 abbrev pub expectedLength : Row → ℕ → ℕ
-expectedLength r n = 7 + r .width * n
+expectedLength r n = recordPlace (r .width) n
 
 -- 13 for a length that is not the expected one, at the shorter of the two
 unfoldable pub wrongLength : ℕ → ℕ → Head

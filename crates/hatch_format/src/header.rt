@@ -3,15 +3,15 @@ use crate::bytes::half;
 use crate::bytes::starts_with;
 ghost use mathlib.Core.Path.{_≡_};
 ghost use Prim.Native.Nat.{_<_};
-ghost use Rattle.hatch_format.specs.Format.{rows, layoutOf, wrongLength, sizedOf, headOf};
+ghost use Rattle.hatch_format.specs.Format.{versionOne, rows, layoutOf, wrongLength, sizedOf, headOf};
 
 pub const HSL: [u8; 3] = [b'H', b'S', b'L'];
 
-const MARK_AT: usize = 0;
+pub const MARK_AT: usize = 0;
 
-const VERSION_AT: usize = 3;
+pub const VERSION_AT: usize = 3;
 
-const COUNT_AT: usize = 5;
+pub const COUNT_AT: usize = 5;
 
 pub const RECORDS_AT: usize = 7;
 
@@ -34,15 +34,22 @@ pub enum Head {
     Accepted { row: Row, count: usize },
 }
 
+// Version 1, which is the one that is written.
+pub fn version_one() -> Row
+    ensures { λ r. ⌜ r ≡ versionOne ⌝ }
+{
+    Row {
+        version: 1,
+        width: 32,
+        limit: 2000,
+    }
+}
+
 fn layout_of(version: usize) -> Layout
     ensures { λ r. ⌜ r ≡ layoutOf rows version ⌝ }
 {
     if version == 1 {
-        Layout::Known(Row {
-            version: 1,
-            width: 32,
-            limit: 2000,
-        })
+        Layout::Known(version_one())
     } else {
         Layout::Unknown
     }

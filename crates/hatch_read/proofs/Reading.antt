@@ -1,33 +1,20 @@
 -- What a reader does, by what it found the header to be. Assumes nothing.
 use mathlib.Core.Path.{_≡_, refl, sym, ap, _∙_, subst}
 use mathlib.Core.Bool.{Bool, true, false, cond}
-use mathlib.Core.List.{List, _++_, map}
+use mathlib.Core.List.{List, map}
 use Prim.Native.Nat.{ℕ, _*_, _≤_}
 use native.Mathlib.Omega.{arith}
 use lib.Dec.{ltb}
-use lib.ListN.{drop, length-map}
-use borrow.Author.Tests.{ltb-false}
-use Rattle.lists.specs.Places.{upto}
+use borrow.Author.Tests.{le-ltb, ltb-false}
 use Rattle.lists.specs.Lent.{written}
-use Rattle.lists.proofs.Entries.{map-upto}
-use Rattle.lists.proofs.Fill.{length-upto}
 use Rattle.hatch_format.specs.Format.{hsl, rows, expectedLength, headOf}
-use Rattle.hatch_format.specs.Decode.{patternAt, bodyOf, Holds}
+use Rattle.hatch_format.specs.Decode.{patternsOf, accepted, bodyOf, decode, Holds}
 use Rattle.hatch_format.proofs.Records.{held}
 use Rattle.hatch_format.specs.declared.header.Row.{Row}
 use Rattle.hatch_format.specs.declared.header.Head.{Head}
 use Rattle.hatch_format.specs.declared.header.Head.the-variants as head
 use Rattle.hatch_read.specs.Read.{withRoom, decodeInto, readOf, readLeaves}
-use Rattle.hatch_read.specs.Loading.{filled}
 use Rattle.hatch_read.specs.declared.Read.the-variants.{Refused, Accepted}
-
--- the loop has written the file's floats
-filled-written : {A : Type 0} (f : ℕ → A) (width : ℕ) (b : List ℕ) (k : ℕ) (l : List A) → filled f width b k l ≡ written (map f (upto (patternAt width b) k)) l
-unfolding written
-filled-written {A} f width b k l =
-    let ps = upto (patternAt width b) k in
-    ap (λ (s : List A). s ++ drop k l) (sym (map-upto f (patternAt width b) k))
-    ∙ ap (λ (n : ℕ). map f ps ++ drop n l) (sym (length-map ps f ∙ length-upto (patternAt width b) k))
 
 -- a header that is accepted with the list is accepted, and the list has room
 accepted-within : (room : ℕ) (h : Head) {r : Row} {n : ℕ} → withRoom room h ≡ head.Accepted r n → (h ≡ head.Accepted r n) × (8 * n ≤ room)
@@ -58,8 +45,32 @@ module _ (b : List ℕ) (room : ℕ) {h : Head} (is : h ≡ withRoom room (headO
         (ap (λ (h : Head). readOf (bodyOf h b)) x, ap (λ (h : Head). readLeaves f (bodyOf h b) l) x)
 
     pub accepts : {r : Row} {n : ℕ} → h ≡ head.Accepted r n
-        → (Accepted (r .version) n ≡ readOf (decodeInto hsl rows room b)) × (filled f (r .width) b (8 * n) l ≡ readLeaves f (decodeInto hsl rows room b) l)
+        → (Accepted (r .version) n ≡ readOf (decodeInto hsl rows room b)) × (written (map f (patternsOf (r .width) b n)) l ≡ readLeaves f (decodeInto hsl rows room b) l)
     unfolding decodeInto bodyOf readOf readLeaves
     accepts {r} {n} e =
         let x = sym e ∙ is in
-        (ap (λ (h : Head). readOf (bodyOf h b)) x, filled-written f (r .width) b (8 * n) l ∙ ap (λ (h : Head). readLeaves f (bodyOf h b) l) x)
+        (ap (λ (h : Head). readOf (bodyOf h b)) x, ap (λ (h : Head). readLeaves f (bodyOf h b) l) x)
+
+-- ---- a list with room decides nothing
+
+module _ (mark : List ℕ) (table : List Row) (b : List ℕ) (room v n : ℕ) (ps : List ℕ) where
+  pub into-plain : decodeInto mark table room b ≡ accepted v n ps → decode mark table b ≡ accepted v n ps
+  unfolding decodeInto decode bodyOf withRoom
+  into-plain e = go (headOf mark table b) e
+    where
+      by-room : (r : Row) (m : ℕ) (t : Bool) → bodyOf (cond t (head.Refused 1 (expectedLength r m)) (head.Accepted r m)) b ≡ accepted v n ps
+          → bodyOf (head.Accepted r m) b ≡ accepted v n ps
+      by-room r m true e = absurd (let z : _≡_ {A = ℕ} 0 1 = cc in omega arith)
+      by-room r m false e = e
+
+      go : (h : Head) → bodyOf (withRoom room h) b ≡ accepted v n ps → bodyOf h b ≡ accepted v n ps
+      go (head.Refused k place) e = e
+      go (head.Accepted r m) e = by-room r m (ltb room (8 * m)) e
+
+  pub plain-into : decode mark table b ≡ accepted v n ps → 8 * n ≤ room → decodeInto mark table room b ≡ accepted v n ps
+  unfolding decodeInto decode bodyOf withRoom
+  plain-into e fits = go (headOf mark table b) e
+    where
+      go : (h : Head) → bodyOf h b ≡ accepted v n ps → bodyOf (withRoom room h) b ≡ accepted v n ps
+      go (head.Refused k place) e = e
+      go (head.Accepted r m) e = let same : m ≡ n = cc in rw (le-ltb room (8 * m) (omega (arith, same, fits))) e

@@ -1,10 +1,8 @@
 -- What a reader does with a hatch list. Definitions only.
 use mathlib.Core.Bool.{cond}
 use mathlib.Core.List.{List, map}
-use Prim.Native.Nat.{ℕ, _*_, _/_}
+use Prim.Native.Nat.{ℕ, _*_}
 use lib.Dec.{ltb}
-use lib.ListN.{length}
-use lib.Ieee.{Float}
 use Rattle.lists.specs.Lent.{written}
 use Rattle.hatch_format.specs.Format.{expectedLength, headOf}
 use Rattle.hatch_format.specs.Decode.{Answer, refused, accepted, bodyOf}
@@ -13,10 +11,6 @@ use Rattle.hatch_format.specs.declared.header.Head.{Head}
 use Rattle.hatch_format.specs.declared.header.Head.the-variants as head
 use Rattle.hatch_read.specs.declared.Read.{Read}
 use Rattle.hatch_read.specs.declared.Read.the-variants.{Refused, Accepted}
-
--- "In memory records are a list of floats, eight each; an incomplete last one does not count"
-abbrev pub recordCountOf : List Float → ℕ
-recordCountOf fs = length fs / 8
 
 -- 1, last of all, for a list of `room` entries that does not hold eight floats a record; it is told where the file ends
 unfoldable pub withRoom : ℕ → Head → Head
@@ -35,7 +29,3 @@ readOf (accepted version n ps) = Accepted version n
 unfoldable pub readLeaves : {A : Type 0} → (ℕ → A) → Answer → List A → List A
 readLeaves f (refused number place) l = l
 readLeaves f (accepted version n ps) l = written (map f ps) l
-
--- f for a list of the bits; for a list of floats it is `floatOf`
-abbrev pub itself : ℕ → ℕ
-itself p = p

@@ -1,6 +1,6 @@
 -- A list by its entries. Assumes nothing.
 use mathlib.Core.Path.{_≡_, refl, sym, ap, _∙_}
-use mathlib.Core.List.{List, [], _∷_, _++_, map}
+use mathlib.Core.List.{List, [], _∷_, map}
 use Prim.Native.Nat.{ℕ, zero, suc, _<_}
 use native.Mathlib.Decide.{decLe}
 use native.Mathlib.Omega.{arith}
@@ -26,11 +26,6 @@ getD-mapped f d e (x ∷ l) (suc i) h = getD-mapped f d e l i (omega arith)
 pub listed : {A : Type 0} (d : A) (e : ℕ → A) (s : List A) → ((j : ℕ) → j < length s → getD s j d ≡ e j) → s ≡ upto e (length s)
 listed d e s h = ext-getD d s (upto e (length s)) (sym (length-upto e (length s))) λ j g. h j g ∙ sym (getD-upto e d (length s) j g)
 
-map-append : {A B : Type 0} (f : A → B) (s t : List A) → map f (s ++ t) ≡ map f s ++ map f t
-map-append f [] t = refl
-map-append f (x ∷ s) t = ap (λ (r : List _). f x ∷ r) (map-append f s t)
-
-pub map-upto : {A B : Type 0} (f : A → B) (g : ℕ → A) (n : ℕ) → map f (upto g n) ≡ upto (λ (k : ℕ). f (g k)) n
-unfolding upto
-map-upto f g zero = refl
-map-upto f g (suc n) = map-append f (upto g n) (g n ∷ []) ∙ ap (λ (r : List _). r ++ (f (g n) ∷ [])) (map-upto f g n)
+pub map-same : {A : Type 0} (s : List A) → map (λ (x : A). x) s ≡ s
+map-same [] = refl
+map-same (x ∷ s) = ap (λ (r : List _). x ∷ r) (map-same s)

@@ -2,10 +2,11 @@
 use mathlib.Core.Path.{_≡_, refl, sym, ap, _∙_}
 use mathlib.Core.List.{List, [], _∷_, _++_}
 use Prim.Native.Nat.{ℕ, zero, suc, _+_, _<_, _≤_}
+use native.Mathlib.Nat.{add-zero}
 use native.Mathlib.Numerals.{add-one}
 use native.Mathlib.Omega.{arith}
-use lib.ListN.{length, set, drop, length-append, length-drop}
-use lib.Seq.{sets, sets-eq, take-at, drop-append-add, drop-drop}
+use lib.ListN.{length, getD, set, take, drop, length-append, length-drop}
+use lib.Seq.{sets, sets-eq, take-at, take-suc, take-length, length-take-le, drop-append-add, drop-drop}
 use Rattle.lists.specs.Places.{upto}
 
 -- stores one right after the other, behind the n entries that are written
@@ -19,6 +20,22 @@ store-all {A} vs es l n e h =
     sets-eq vs (es ++ drop n l) n (omega (arith, h, whole))
     ∙ ap (λ (t : List A). (t ++ vs) ++ drop (n + length vs) (es ++ drop n l)) (take-at es (drop n l) n e)
     ∙ ap (λ (t : List A). (es ++ vs) ++ t) rest
+
+-- stores that go on where others ended
+pub sets-append : {A : Type 0} (s t l : List A) (i : ℕ) → sets (sets l i s) (i + length s) t ≡ sets l i (s ++ t)
+sets-append [] t l i = ap (λ (k : ℕ). sets l k t) (add-zero i)
+sets-append (x ∷ s) t l i = ap (λ (k : ℕ). sets (sets (set l i x) (suc i) s) k t) (omega arith) ∙ sets-append s t (set l i x) (suc i)
+
+-- a loop that stores the entries of s one by one, from a place on
+pub sets-more : {A : Type 0} (s l : List A) (at k : ℕ) (d : A) → k < length s → set (sets l at (take k s)) (at + k) (getD s k d) ≡ sets l at (take (k + 1) s)
+sets-more {A} s l at k d h =
+    ap (λ (n : ℕ). set (sets l at (take k s)) (at + n) (getD s k d)) (sym (length-take-le k s (omega arith)))
+    ∙ sets-append (take k s) (getD s k d ∷ []) l at
+    ∙ ap (sets l at) (sym (ap (λ (n : ℕ). take n s) (add-one k) ∙ take-suc s k d h))
+
+-- and its end
+pub sets-all : {A : Type 0} (s l : List A) (at k : ℕ) → k ≡ length s → sets l at (take k s) ≡ sets l at s
+sets-all s l at k e = ap (sets l at) (ap (λ (n : ℕ). take n s) e ∙ take-length s)
 
 -- one store
 pub store-next : {A : Type 0} (es l : List A) (n : ℕ) (v : A) → length es ≡ n → n < length l

@@ -1,14 +1,21 @@
 -- What an answer says of the list that was lent. Assumes nothing.
-use mathlib.Core.Path.{_≡_, refl, sym}
+use mathlib.Core.Path.{_≡_, refl, sym, ap, _∙_}
 use mathlib.Core.Bool.{Bool, true, false, cond}
-use mathlib.Core.List.{List}
-use Prim.Native.Nat.{ℕ, _<_}
+use mathlib.Core.List.{List, _++_}
+use Prim.Native.Nat.{ℕ, _<_, _≤_}
+use native.Mathlib.Nat.{zero-add}
 use native.Mathlib.Omega.{arith}
 use borrow.Author.Tests.{ltb-true}
 use lib.Dec.{ltb}
-use lib.ListN.{length}
+use lib.ListN.{length, drop}
+use lib.Seq.{sets, sets-eq}
 use Rattle.types.specs.declared.answer.Listed.the-variants.{Count, Refused, RefusedAt}
-use Rattle.lists.specs.Lent.{fitted}
+use Rattle.lists.specs.Lent.{written, fitted}
+
+-- stores from the first entry on
+pub sets-written : {A : Type 0} (es l : List A) → length es ≤ length l → sets l 0 es ≡ written es l
+unfolding written
+sets-written {A} es l h = sets-eq es l 0 (omega arith) ∙ ap (λ (k : ℕ). es ++ drop k l) (zero-add (length es))
 
 -- a refusal is no count
 pub no-count : {A : Type 0} (k n : ℕ) → Refused k ≡ Count n → A

@@ -6,7 +6,8 @@ use native.Mathlib.Numerals.{add-one}
 use lib.Dec.{lit≤}
 use lib.ListN.{getD}
 use lib.Ieee.{Float, nan}
-use Rattle.hatch_format.specs.Decode.{floatOf, recordPlace, recordBitsOf, patternsOf, Holds}
+use Rattle.hatch_format.specs.Format.{recordPlace}
+use Rattle.hatch_format.specs.Decode.{floatOf, recordBitsOf, patternsOf, Holds}
 use Rattle.hatch_format.proofs.Records.{record-entry, file-entry}
 use Rattle.text.specs.Page.{Page, Adds}
 use Rattle.text.proofs.Laws.{many, same}

@@ -1,133 +1,79 @@
--- `hatch_read::load_patterns` meets its contract: after i turns the first i records are stored, and after j more of the inner loop j floats of the next. Assumes
--- nothing.
-use mathlib.Core.Path.{_≡_, ap, _∙_}
+-- `hatch_read::load_patterns` meets its contract: after i turns the first i records are stored. Assumes nothing.
+use mathlib.Core.Path.{_≡_, refl, sym, ap, _∙_}
 use mathlib.Core.List.{List}
 use Prim.Native.Nat.{ℕ, _+_, _*_, _-_, _≤_}
 use native.Mathlib.Omega.{arith}
 use denote.Ref.{now}
-use lib.ListN.{length, getD}
-use Rattle.lists.proofs.Fill.{fill-none, length-fill}
-use Rattle.hatch_format.specs.Decode.{recordPlace}
-use Rattle.hatch_format.proofs.Records.{within, record-pattern}
-use Rattle.hatch_read.specs.Read.{itself}
-use Rattle.hatch_read.specs.Loading.{entryAt, filled}
-use Rattle.hatch_read.proofs.Loading.{more, begun, done}
+use lib.ListN.{length, take, drop}
+use lib.Seq.{sets, length-sets}
+use Rattle.lists.proofs.Entries.{map-same}
+use Rattle.hatch_format.specs.Format.{recordPlace}
+use Rattle.hatch_format.specs.Decode.{itself, recordBitsOf}
+use Rattle.hatch_format.proofs.Records.{within, record-length}
+use Rattle.hatch_read.proofs.Loading.{entriesOf, halves-stored, record-read, one-more, all-read}
 use Rattle.hatch_read.proofs.load_patterns.Statement.{statement}
 use Rattle.hatch_read.proofs.load_patterns.Tie as tie
 
-abbrev Inv-loop2 : tie.InvT-loop2
-Inv-loop2 bytes width count out₀ i patterns j₀ out j = (j ≤ 8) × (out ≡ filled itself width bytes (8 * i + j) out₀)
-
-abbrev μ-loop2 : tie.MeasureT-loop2
-μ-loop2 bytes width count out₀ i patterns j₀ out j = 8 - j
-
 abbrev Inv-loop : tie.InvT-loop
-Inv-loop bytes width count out₀ i₀ out i = (i ≤ count) × (out ≡ filled itself width bytes (8 * i) out₀)
+Inv-loop bytes width count out₀ i₀ out i = (i ≤ count) × (out ≡ sets out₀ 0 (take (8 * i) (entriesOf itself width bytes count)))
 
 abbrev μ-loop : tie.MeasureT-loop
 μ-loop bytes width count out₀ i₀ out i = count - i
 
-loop-holds : tie.Need-loop-holds Inv-loop2 μ-loop2 Inv-loop μ-loop
-loop-holds c = (omega arith, fill-none _ _)
+abbrev Turn : Type 0
+Turn = tie.In-loop Inv-loop μ-loop
 
 -- record i lies within the file
-place : (c : tie.In-loop Inv-loop2 μ-loop2 Inv-loop μ-loop) → recordPlace (c .before .before .before .before .args .width) (c .before .loop .i) + 32 ≤ length (now (c .before .before .before .before .args .bytes))
+place : (c : Turn) → recordPlace (c .before .before .before .before .args .width) (c .before .loop .i) + 32 ≤ length (now (c .before .before .before .before .args .bytes))
 place c =
     let start = c .before .before .before .before in
     within (start .args .width) (start .args .count) (now (start .args .bytes)) (start .pre .0) (c .before .loop .i) (omega arith)
 
 -- the list is as long as it came
-kept : (c : tie.At-loop Inv-loop2 μ-loop2 Inv-loop μ-loop) → length (c .loop .out) ≡ length (now (c .before .before .before .args .out))
-kept c =
-    let start = c .before .before .before in
-    ap length (c .loop .inv .1)
-    ∙ length-fill (entryAt itself (start .args .width) (now (start .args .bytes))) (8 * c .loop .i) (now (start .args .out)) (omega (arith, start .pre .1))
+as-long : (c : tie.At-loop Inv-loop μ-loop) → length (c .loop .out) ≡ length (now (c .before .before .before .args .out))
+as-long c =
+    let a = c .before .before .before .args in
+    ap length (c .loop .inv .1) ∙ length-sets (now (a .out)) 0 (take (8 * c .loop .i) (entriesOf itself (a .width) (now (a .bytes)) (a .count)))
 
-mul-record-bits : tie.Need-mul-record-bits Inv-loop2 μ-loop2 Inv-loop μ-loop
-mul-record-bits c = omega (arith, place c)
+-- a turn has room for both halves
+room : (c : Turn) → 8 * c .before .loop .i + 8 ≤ length (c .before .loop .out)
+room c = omega (arith, as-long (c .before), c .before .before .before .before .pre .1)
 
-add-record-bits : tie.Need-add-record-bits Inv-loop2 μ-loop2 Inv-loop μ-loop
-add-record-bits c = omega (arith, place c)
-
-record-bits-requires : tie.Need-record-bits-requires Inv-loop2 μ-loop2 Inv-loop μ-loop
-record-bits-requires c κs = tt
-
-loop2-holds : tie.Need-loop2-holds Inv-loop2 μ-loop2 Inv-loop μ-loop
-loop2-holds c =
-    let turn = c .before .before in
-    let a = turn .before .before .before .args in
-    (omega arith, begun itself (a .width) (turn .loop .i) (now (a .bytes)) (now (a .out)) (turn .loop .inv .1))
-
-mul-out : tie.Need-mul-out Inv-loop2 μ-loop2 Inv-loop μ-loop
-mul-out c = omega arith
-
-array-read-out : tie.Need-array-read-out Inv-loop2 μ-loop2 Inv-loop μ-loop
-array-read-out c = omega arith
-
-mul-out-2 : tie.Need-mul-out-2 Inv-loop2 μ-loop2 Inv-loop μ-loop
-mul-out-2 c = omega arith
-
-add-out : tie.Need-add-out Inv-loop2 μ-loop2 Inv-loop μ-loop
-add-out c = omega arith
-
-mul-out-3 : tie.Need-mul-out-3 Inv-loop2 μ-loop2 Inv-loop μ-loop
-mul-out-3 c = omega arith
-
-slice-write-out : tie.Need-slice-write-out Inv-loop2 μ-loop2 Inv-loop μ-loop
-slice-write-out c =
-    let at = c .before in
-    let turn = at .before .before .before in
-    let start = turn .before .before .before in
-    let room : 8 * turn .loop .i + 8 ≤ length (turn .loop .out) = omega (arith, kept turn, start .pre .1) in
-    let whole = length-fill (entryAt itself (start .args .width) (now (start .args .bytes))) (8 * turn .loop .i + at .loop2 .j) (turn .loop .out) (omega arith) in
-    omega (arith, ap length (at .loop2 .inv .1), whole)
-
-add-j : tie.Need-add-j Inv-loop2 μ-loop2 Inv-loop μ-loop
-add-j c = omega arith
-
-loop2-less : tie.Need-loop2-less Inv-loop2 μ-loop2 Inv-loop μ-loop
-loop2-less c = omega arith
-
-loop2-again : tie.Need-loop2-again Inv-loop2 μ-loop2 Inv-loop μ-loop
-loop2-again c =
-    let at = c .before in
-    let read = at .before in
-    let turn = read .before .before in
+loop-again : tie.Need-loop-again Inv-loop μ-loop
+loop-again c =
+    let second = c .before .before in
+    let first = second .before .before .before .before in
+    let turn = first .before .before .before .before in
     let start = turn .before .before .before in
     let a = start .args in
-    let float =
-    ap (λ (r : List ℕ). getD r (at .loop2 .j) 0) (read .record-bits .ensures)
-    ∙ record-pattern (a .width) (a .count) (now (a .bytes)) (start .pre .0) (turn .loop .i) (omega arith) (at .loop2 .j) (omega arith) in (
+    let at = recordPlace (a .width) (turn .loop .i) in
+    let r = recordBitsOf (take (at + 32 - at) (drop at (now (a .bytes)))) 0 in
+    let patterns = sym (map-same r) ∙ record-read itself 0 (a .width) (a .count) (now (a .bytes)) (start .pre .0) (turn .loop .i) (omega arith) in
+    let l = turn .loop .out in
+    let place = 8 * turn .loop .i in (
       omega arith,
-      rw (at .loop2 .inv .1)
-          (more itself (a .width) (turn .loop .i) (at .loop2 .j) (now (a .bytes)) (turn .loop .out) float (omega (arith, kept turn, start .pre .1))),
+      second .load-half2 .ensures
+          ∙ ap (λ (t : List ℕ). sets t (place + 4) (take 4 (drop 4 r))) (first .load-half .ensures)
+          ∙ halves-stored r l place (record-length _ 0)
+          ∙ one-more itself 0 (a .width) (a .count) (now (a .bytes)) (start .pre .0) (now (a .out)) (turn .loop .i) (omega arith) (turn .loop .inv .1) patterns,
     )
 
-add-i : tie.Need-add-i Inv-loop2 μ-loop2 Inv-loop μ-loop
-add-i c = omega arith
-
-loop-less : tie.Need-loop-less Inv-loop2 μ-loop2 Inv-loop μ-loop
-loop-less c = omega arith
-
-loop-again : tie.Need-loop-again Inv-loop2 μ-loop2 Inv-loop μ-loop
-loop-again c =
-    let at = c .before in
-    let turn = at .before .before .before in
-    let a = turn .before .before .before .args in
-    let e : 8 * turn .loop .i + at .loop2 .j ≡ 8 * (turn .loop .i + 1) = omega arith in (
-      omega arith,
-      done itself (a .width) (turn .loop .i) (now (a .bytes)) (now (a .out)) (turn .loop .inv .1) (at .loop2 .j) (at .loop2 .inv .1)
-          ∙ ap (λ (k : ℕ). filled itself (a .width) (now (a .bytes)) k (now (a .out))) e,
-    )
-
-same-length : tie.Need-same-length Inv-loop2 μ-loop2 Inv-loop μ-loop
-same-length c = kept (c .before)
-
-returns : tie.Need-returns Inv-loop2 μ-loop2 Inv-loop μ-loop
+returns : tie.Need-returns Inv-loop μ-loop
 returns c =
-    let a = c .before .before .before .before .args in
-    let e : c .before .loop .i ≡ a .count = omega arith in
-    c .before .loop .inv .1 ∙ ap (λ (i : ℕ). filled itself (a .width) (now (a .bytes)) (8 * i) (now (a .out))) e
+    let start = c .before .before .before .before in
+    let a = start .args in
+    all-read itself 0 (a .width) (a .count) (now (a .bytes)) (start .pre .0) (now (a .out)) (start .pre .1) (c .before .loop .i) (omega arith) (c .before .loop .inv .1)
 
 pub load-patterns-spec : {M : Type 1} → statement M
-load-patterns-spec = tie.close (tie.spec Inv-loop2 μ-loop2 Inv-loop μ-loop loop-holds mul-record-bits add-record-bits record-bits-requires loop2-holds mul-out array-read-out mul-out-2 add-out mul-out-3 slice-write-out add-j loop2-less loop2-again add-i loop-less loop-again same-length returns)
+load-patterns-spec = tie.close (tie.spec
+    Inv-loop μ-loop
+    (λ c. (omega arith, refl))
+    (λ c. omega (arith, place c)) (λ c. omega (arith, place c)) (λ c. omega (arith, place c)) (λ c. omega (arith, place c))
+    (λ c. omega (arith, place c)) (λ c. omega (arith, place c))
+    (λ c. omega arith) (λ c κs. omega (arith, room (c .before .before)))
+    (λ c. omega arith) (λ c. omega (arith, room (c .before .before .before .before .before .before)))
+    (λ c κs. omega (arith, room (c .before .before .before .before .before .before), c .before .before .before .load-half .kept .0))
+    (λ c. omega arith) (λ c. omega arith)
+    loop-again
+    (λ c. as-long (c .before))
+    returns)

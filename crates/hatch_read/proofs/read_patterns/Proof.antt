@@ -1,7 +1,7 @@
 -- `hatch_read::read_patterns` meets its contract: the header decides, and the loop has filled the list. Assumes nothing.
 use mathlib.Core.Path.{_∙_}
 use borrow.Author.Needs.{needs}
-use Rattle.hatch_read.specs.Read.{itself}
+use Rattle.hatch_format.specs.Decode.{itself}
 use Rattle.hatch_read.proofs.Reading.{whole, refuses, accepts}
 use Rattle.hatch_read.proofs.read_patterns.Statement.{statement}
 use Rattle.hatch_read.proofs.read_patterns.Tie as tie

@@ -7,7 +7,8 @@ use denote.Ref.{now}
 use lib.ListN.{length}
 use lib.Ieee.{Float}
 use borrow.Author.Needs.{needs}
-use Rattle.hatch_format.specs.Decode.{floatOf, patternsOf, recordPlace}
+use Rattle.hatch_format.specs.Format.{recordPlace}
+use Rattle.hatch_format.specs.Decode.{floatOf, patternsOf}
 use Rattle.hatch_format.proofs.Records.{within}
 use Rattle.text.specs.Page.{page, Adds}
 use Rattle.text.proofs.Laws.{none, same}
