@@ -1,6 +1,6 @@
 /*
- * Clips a hatch list line by line, and one of its faces in one call; then lists the pixels of two strokes and the tiles
- * of a box.
+ * Clips a hatch list line by line, and one of its faces in one call, and makes the bytes to save with a line corrected;
+ * then lists the pixels of two strokes and the tiles of a box.
  *
  *   ./install PREFIX
  *   cc -std=c99 -IPREFIX/include examples/section.c -LPREFIX/lib -lbagnoszyk -o section
@@ -13,7 +13,7 @@
 #include <string.h>
 
 /* One byte more than the longest hatch list has, which tells a longer file: it is refused and not cut. */
-enum { BYTES = BGZ_HATCH_BYTES_MAX + 1, FLOATS = BGZ_HATCH_FLOATS_MAX };
+enum { BYTES = BGZ_HATCH_BYTES_MAX + 1, FLOATS = BGZ_HATCH_FLOATS_MAX, RECORD = BGZ_HATCH_RECORD_FLOATS };
 
 /* Room for the lines of any face of a hatch list, and for what they give. */
 enum { LINES = BGZ_LINE_FLOATS * BGZ_HATCH_RECORDS_MAX, RESULTS = BGZ_LINE_RESULT_FLOATS * BGZ_HATCH_RECORDS_MAX };
@@ -25,7 +25,7 @@ struct line {
     bgz_vec2 direction;
 };
 
-static struct line line_of(const float record[8]) {
+static struct line line_of(const float record[RECORD]) {
     return (struct line){
         .face = {record[0], record[1], record[2], record[3]},
         .origin = {record[4], record[5]},
@@ -65,7 +65,7 @@ static void print_list(const char *what, const uint32_t *list, size_t count) {
 static void print_section(const float *floats, size_t count) {
     size_t hits = 0, rising = 0, falling = 0;
     const float *first_rising = NULL, *first_falling = NULL;
-    for (const float *record = floats; record < floats + 8 * count; record += 8) {
+    for (const float *record = floats; record < floats + RECORD * count; record += RECORD) {
         struct line line = line_of(record);
         bgz_interval_answer hit = clip(line);
         int sign = slope(line.direction);
@@ -89,7 +89,7 @@ static void print_section(const float *floats, size_t count) {
 static void print_face(const float *floats, size_t count) {
     static float lines[LINES], results[RESULTS];
     size_t length = 0, hits = 0;
-    for (const float *record = floats; record < floats + 8 * count; record += 8) {
+    for (const float *record = floats; record < floats + RECORD * count; record += RECORD) {
         if (memcmp(record, floats, 4 * sizeof *record) == 0) {
             memcpy(lines + length, record + 4, BGZ_LINE_FLOATS * sizeof *record);
             length += BGZ_LINE_FLOATS;
@@ -103,6 +103,30 @@ static void print_face(const float *floats, size_t count) {
     for (size_t i = 0; i < answer.count; i += BGZ_LINE_RESULT_FLOATS)
         hits += results[i] == 1;
     printf("first face: %zu lines, %zu hit\n", length / BGZ_LINE_FLOATS, hits);
+}
+
+/*
+ * Negates the direction's x of the first record, so that its line leans the other way, and makes the bytes to store.
+ * Records are saved by their bits: what is not corrected stays as it was, byte for byte. The list was read, and there is a
+ * record.
+ */
+static void print_saved(const uint8_t *bytes, size_t length) {
+    static uint32_t patterns[FLOATS];
+    static uint8_t saved[BGZ_HATCH_BYTES_MAX];
+    bgz_read_answer read = bgz_hatch_read_patterns(bytes, length, patterns, FLOATS);
+    float dx;
+    memcpy(&dx, &patterns[6], sizeof dx);
+    dx = -dx;
+    memcpy(&patterns[6], &dx, sizeof dx);
+    bgz_count_answer answer = bgz_hatch_write_patterns(patterns, RECORD * read.count, saved, sizeof saved);
+    if (answer.status != BGZ_ANSWERED) {
+        printf("to save: %s\n", bgz_refusal_text(answer.status));
+        return;
+    }
+    size_t changed = 0;
+    for (size_t i = 0; i < answer.count; i++)
+        changed += saved[i] != bytes[i];
+    printf("to save: %zu bytes, %zu changed\n", answer.count, changed);
 }
 
 int main(int argc, char **argv) {
@@ -123,8 +147,10 @@ int main(int argc, char **argv) {
         return 1;
     }
     print_section(floats, read.count);
-    if (read.count > 0)
+    if (read.count > 0) {
         print_face(floats, read.count);
+        print_saved(bytes, length);
+    }
 
     /* A stroke and its falling twin, in an image of 8 by 8 pixels. */
     uint32_t list[16];

@@ -17,6 +17,7 @@
  * Floats. Each operation is rounded to the nearest float, ties to even, as IEEE 754 has it. The caller must leave the
  * rounding mode as it is at the start of a program, and subnormal numbers on: a program linked with -ffast-math may turn
  * them off. Else answers may be others; that calls still end and keep to their lists is tested, and not proved.
+ * Exceptions must not trap, as they do not at the start of a program; calls may raise their flags.
  * A comparison with a NaN is false. An answer that is a NaN may have any NaN's bits. +0 and -0 are equal in every
  * comparison; of two equal zeros a minimum or maximum gives the first. Minimum and maximum, wherever a comment names them,
  * drop a NaN if the other is a number.
@@ -53,6 +54,7 @@ extern "C" {
 #define BGZ_STROKE_ENTRIES_MAX 16385     /* Room for the entries of any stroke. */
 #define BGZ_TILE_COORDINATE_MAX 1048576  /* The largest coordinate of a box whose tiles are listed, in size. */
 #define BGZ_TILE_SIZE_MAX 4096           /* The longest side of a tile. */
+#define BGZ_HATCH_RECORD_FLOATS 8        /* The floats of a record of a hatch list. */
 #define BGZ_HATCH_RECORDS_MAX 2000       /* The most records of a hatch list. */
 #define BGZ_HATCH_FLOATS_MAX 16000       /* Room for the floats of any hatch list. */
 #define BGZ_HATCH_BYTES_MAX 64007        /* The bytes of the longest hatch list. */
@@ -605,8 +607,8 @@ bgz_aabb2 bgz_aabb2_translate(bgz_aabb2 b, bgz_vec2 t);
  * shorter than the tiles.
  * Example: (5, 5, 25, 12), 10, 4, 4, [0; 8] gives 6 and leaves [0, 1, 2, 4, 5, 6, 0, 0].
  */
-bgz_count_answer bgz_aabb2_overlapping_tiles(bgz_aabb2 b, size_t size, size_t shape_width, size_t shape_height, uint32_t
-                                             *out, size_t out_length);
+bgz_count_answer bgz_aabb2_overlapping_tiles(bgz_aabb2 b, size_t size, size_t shape_width, size_t shape_height,
+                                             uint32_t *out, size_t out_length);
 
 /*
  * How many whole boxes a flat list has: its length / 4, rounded down. Each box is min_x, min_y, max_x, max_y.
@@ -678,9 +680,10 @@ bool bgz_obb2_is_intersect_obb2(bgz_obb2 a, bgz_obb2 b);
 bool bgz_obb2_is_intersect_aabb2(bgz_obb2 o, bgz_aabb2 b);
 
 /*
- * ---- hatch: hatch lists, and the report on one. The bytes of a hatch list are "HSL", a 16-bit version, which is 1, a
- * 16-bit count n of at most 2,000, and n records of eight floats: box (min_x, min_y, max_x, max_y), origin (x, y),
- * direction (x, y). Little-endian; 7 + 32 n bytes in all.
+ * ---- hatch: hatch lists, read, written and reported on. The bytes of a hatch list are "HSL", a 16-bit version, which
+ * is 1, a 16-bit count n of at most 2,000, and n records of eight floats: box (min_x, min_y, max_x, max_y), origin (x,
+ * y), direction (x, y). Little-endian; 7 + 32 n bytes in all. Records are read and written as floats, or as patterns,
+ * the bits of the floats, in which a NaN keeps its own.
  */
 
 /*
@@ -711,6 +714,30 @@ bgz_read_answer bgz_hatch_read_patterns(const void *bytes, size_t bytes_length, 
  * Example: [0, 0, 4, 2, 6, -1, -1, 1, 0] gives 1.
  */
 size_t bgz_hatch_record_count(const float *floats, size_t floats_length);
+
+/*
+ * A hatch list of version 1 from the bits of its floats, eight a record. The length of patterns / 8, rounded down, is
+ * the number n of records: an incomplete last one does not count. To save what bgz_hatch_read_patterns read, hand over
+ * the 8 * count patterns that it wrote: they are written as the bytes that they were read from, those of a NaN
+ * included. Whatever is written, bgz_hatch_read_patterns reads as the same records.
+ * Writes 7 + 32 * n bytes to the start of out and answers how many that is; BGZ_HATCH_BYTES_MAX are room for any.
+ * Refused: BGZ_REFUSED_COUNT if n is above 2,000; BGZ_REFUSED_ROOM if out is shorter than 7 + 32 * n.
+ * Example: [1, 2, 3, 4, 5, 6, 7, 8], [9; 40] gives 39 and leaves [72, 83, 76, 1, 0, 1, 0, 1, 0, 0, 0, 2, 0, 0, 0, 3, 0,
+ * 0, 0, 4, 0, 0, 0, 5, 0, 0, 0, 6, 0, 0, 0, 7, 0, 0, 0, 8, 0, 0, 0, 9].
+ */
+bgz_count_answer bgz_hatch_write_patterns(const uint32_t *patterns, size_t patterns_length, void *out,
+                                          size_t out_length);
+
+/*
+ * bgz_hatch_write_patterns from the floats themselves, n records of eight. A number is written with its own bits, the
+ * sign of a zero too, and a NaN with the bits 7fc00000, whatever its own were: to save what was read, patterns serve,
+ * which keep them. bgz_hatch_read_floats reads the same floats again.
+ * Writes 7 + 32 * n bytes to the start of out and answers how many that is.
+ * Refused: as bgz_hatch_write_patterns is.
+ * Example: [0, 0, 4, 2, 6, -1, -1, 1], [9; 40] gives 39 and leaves [72, 83, 76, 1, 0, 1, 0, 0, 0, 0, 0, 0, 0, 0, 0, 0,
+ * 0, 128, 64, 0, 0, 0, 64, 0, 0, 192, 64, 0, 0, 128, 191, 0, 0, 128, 191, 0, 0, 128, 63, 9].
+ */
+bgz_count_answer bgz_hatch_write_floats(const float *floats, size_t floats_length, void *out, size_t out_length);
 
 /*
  * The report on a hatch list, as text: each record clipped as a line. "HSL", version and count; then for each record a

@@ -35,7 +35,7 @@
 //!
 //! Each operation is rounded to the nearest float, ties to even, as IEEE 754 has it. The caller must leave the rounding mode as it is at the
 //! start of a program, and subnormal numbers on. Else answers may be others; that calls still end and keep to their lists is tested, and not
-//! proved.
+//! proved. Exceptions must not trap, as they do not at the start of a program; calls may raise their flags.
 //!
 //! A comparison with a NaN is false, and an answer that is a NaN may have any NaN's bits. +0 and -0 are equal in every comparison. A minimum
 //! or maximum gives the first of two equal zeros, and drops a NaN if the other is a number.

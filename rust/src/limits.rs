@@ -23,6 +23,9 @@ pub const TILE_COORDINATE_MAX: f32 = 1_048_576.0;
 /// The longest side of a tile.
 pub const TILE_SIZE_MAX: usize = 4_096;
 
+/// The floats of a record of a hatch list.
+pub const HATCH_RECORD_FLOATS: usize = 8;
+
 /// The most records of a hatch list.
 pub const HATCH_RECORDS_MAX: usize = 2_000;
 

@@ -1,4 +1,4 @@
-//! The hatch list through the C ABI: what is read, what is reported, each refusal, and what becomes of the lent lists.
+//! The hatch list through the C ABI: what is read, what is written, what is reported, each refusal, and what becomes of the lent lists.
 
 use bagnoszyk::{Read, Refusal, RefusalAt, hatch};
 
@@ -85,5 +85,82 @@ fn a_refusal_gives_its_number_and_byte_and_changes_nothing() {
             let (number, place) = (refused.number(), refused.place.unwrap());
             assert_eq!(out[..length], *format!("refused {number} {place}\n").as_bytes());
         }
+    }
+}
+
+/// Its records, and one with NaNs of every kind: signalling and quiet, of either sign.
+fn patterns() -> Vec<u32> {
+    const NANS: [u32; 8] = [
+        0x7f80_0001,
+        0xff80_0001,
+        0x7fbf_ffff,
+        0xffbf_ffff,
+        0x7fc0_0000,
+        0xffc0_0000,
+        0x7fff_ffff,
+        0xffff_ffff,
+    ];
+    words().chain(NANS).collect()
+}
+
+#[test]
+fn what_was_read_is_written_as_it_stood() {
+    let mut read = vec![MARKED; 8 * 306];
+    hatch::read_patterns(SECTION, &mut read).unwrap();
+    let mut out = vec![0x5a; SECTION.len() + 5];
+    assert_eq!(hatch::write_patterns(&read, &mut out), Ok(SECTION.len()));
+    assert_eq!(out, [SECTION, &[0x5a; 5]].concat());
+}
+
+#[test]
+fn what_is_written_reads_as_those_records() {
+    let patterns = patterns();
+    let mut out = vec![0; 7 + 4 * patterns.len()];
+    assert_eq!(hatch::write_patterns(&patterns, &mut out), Ok(out.len()));
+    let mut read = vec![MARKED; patterns.len()];
+    assert_eq!(hatch::read_patterns(&out, &mut read), Ok(Read { version: 1, count: 307 }));
+    assert_eq!(read, patterns);
+}
+
+#[test]
+fn floats_are_written_with_their_bits_and_a_nan_with_one_pattern() {
+    let floats: Vec<_> = patterns().into_iter().map(f32::from_bits).collect();
+    let one = |x: &f32| if x.is_nan() { 0x7fc0_0000 } else { x.to_bits() };
+    let mut out = vec![0; 7 + 4 * floats.len()];
+    assert_eq!(hatch::write_floats(&floats, &mut out), Ok(out.len()));
+    let mut read = vec![MARKED; floats.len()];
+    hatch::read_patterns(&out, &mut read).unwrap();
+    assert!(read.iter().copied().eq(floats.iter().map(one)));
+}
+
+#[test]
+fn entries_that_make_no_record_are_not_written() {
+    let patterns = patterns();
+    let mut whole = vec![0; 7 + 32 * 3];
+    hatch::write_patterns(&patterns[..24], &mut whole).unwrap();
+    for more in 0..8 {
+        let mut out = vec![0x5a; whole.len() + 5];
+        assert_eq!(hatch::write_patterns(&patterns[..24 + more], &mut out), Ok(whole.len()));
+        assert_eq!(out, [&whole[..], &[0x5a; 5]].concat());
+    }
+}
+
+#[test]
+fn a_refused_write_gives_its_number_and_changes_nothing() {
+    let cases = [
+        // Too many records come before a list that is too short.
+        (8 * 2001, 0, Refusal::COUNT),
+        (8 * 2001, 64_039, Refusal::COUNT),
+        (8 * 2001 + 7, 64_038, Refusal::COUNT),
+        (8 * 2000 + 7, 64_006, Refusal::ROOM),
+        (8, 38, Refusal::ROOM),
+        (7, 6, Refusal::ROOM),
+        (0, 0, Refusal::ROOM),
+    ];
+    for (entries, room, refused) in cases {
+        let mut out = vec![0x5a; room];
+        assert_eq!(hatch::write_patterns(&vec![MARKED; entries], &mut out), Err(refused));
+        assert_eq!(hatch::write_floats(&vec![1.0; entries], &mut out), Err(refused));
+        assert!(out.iter().all(|&byte| byte == 0x5a));
     }
 }

@@ -81,6 +81,8 @@ fn sizes_of_a_tile() {
 fn the_longest_hatch_list() {
     let (longest, longer) = (list(HATCH_RECORDS_MAX), list(HATCH_RECORDS_MAX + 1));
     assert_eq!(longest.len(), HATCH_BYTES_MAX);
+    assert_eq!(HATCH_FLOATS_MAX, HATCH_RECORD_FLOATS * HATCH_RECORDS_MAX);
+    assert_eq!(hatch::record_count(&[0.0; HATCH_RECORD_FLOATS]), 1);
     let mut floats = vec![0.0; HATCH_FLOATS_MAX];
     assert_eq!(hatch::read_floats(&longest, &mut floats).unwrap().count, HATCH_RECORDS_MAX);
     assert_eq!(
@@ -88,6 +90,15 @@ fn the_longest_hatch_list() {
         Err(Refusal::ROOM.at(HATCH_BYTES_MAX))
     );
     assert_eq!(hatch::read_floats(&longer, &mut floats), Err(Refusal::COUNT.at(5)));
+
+    let mut file = vec![0; HATCH_BYTES_MAX];
+    assert_eq!(hatch::write_floats(&floats, &mut file), Ok(HATCH_BYTES_MAX));
+    assert_eq!(file, longest);
+    assert_eq!(hatch::write_floats(&floats, &mut file[1..]), Err(Refusal::ROOM));
+    floats.extend([1.0; 8]);
+    assert_eq!(hatch::write_floats(&floats, &mut file), Err(Refusal::COUNT));
+    assert_eq!(file, longest);
+    floats.truncate(HATCH_FLOATS_MAX);
 
     let mut out = vec![0; HATCH_REPORT_MAX + 1];
     let length = hatch::report(&longest, &mut out);

@@ -4,11 +4,14 @@
 #include <stdlib.h>
 #include <string.h>
 
-/* Entries behind a lent list that are looked at with it. */
-enum { GUARD = 16 };
+/* Bytes behind a lent list that are looked at with it. */
+enum { GUARD = 64 };
 
 /* No routine lists more: every tile of the largest sheet. */
 static const uint64_t MOST_ENTRIES = UINT64_C(16384) * 16384;
+
+/* The bytes of a hatch list before its records. */
+enum { HEADER = 7 };
 
 const size_t ask_sizes[4] = {
     sizeof(struct routine), sizeof(struct input), sizeof(struct reply), sizeof(struct request)};
@@ -20,27 +23,36 @@ const struct routine *routine_named(const char *name) {
     return NULL;
 }
 
-static uint32_t pattern(size_t place) {
-    return UINT32_C(0x5a5a5a5a) ^ (uint32_t)place;
+bool is_read(char letter) {
+    return letter == 'F' || letter == 'P' || letter == 'B';
 }
 
-static uint32_t *lend(size_t room) {
-    uint32_t *list = malloc((room + GUARD) * sizeof *list);
+size_t entry_size(char letter) {
+    return letter == 'b' || letter == 'B' ? 1 : 4;
+}
+
+/* What a byte of a list is lent with. */
+static uint8_t filling(size_t place) {
+    return (uint8_t)(0x5a ^ place ^ place >> 8);
+}
+
+static uint8_t *lend(size_t bytes) {
+    uint8_t *list = malloc(bytes + GUARD);
     if (list == NULL) {
-        fprintf(stderr, "no memory for a list of %zu entries\n", room);
+        fprintf(stderr, "no memory for a list of %zu bytes\n", bytes);
         exit(1);
     }
-    for (size_t i = 0; i < room + GUARD; i++)
-        list[i] = pattern(i);
+    for (size_t i = 0; i < bytes + GUARD; i++)
+        list[i] = filling(i);
     return list;
 }
 
-/* Whether more was written than there was room for, or an entry after what was written, the guard among them. */
-static bool is_damaged(const uint32_t *list, size_t written, size_t room) {
+/* Whether more bytes were written than there was room for, or one after those that were, the guard among them. */
+static bool is_damaged(const uint8_t *list, size_t written, size_t room) {
     if (written > room)
         return true;
     for (size_t i = written; i < room + GUARD; i++)
-        if (list[i] != pattern(i))
+        if (list[i] != filling(i))
             return true;
     return false;
 }
@@ -79,28 +91,37 @@ static size_t place_of_room(const char *takes) {
 }
 
 /*
- * The length of the list to lend. A room for more than the routine can write is cut: it writes at most an entry a float or
- * a byte that it reads.
+ * The length of the list to lend. A room for more than the routine can write is cut, with an entry to spare: one that
+ * reads a list writes at most four entries for each of that list, and a header.
  */
 static size_t lent_length(const struct routine *routine, const struct input *input) {
-    bool reads = strpbrk(routine->lists, "FB") != NULL;
-    uint64_t most = reads ? input->float_count + input->byte_count : MOST_ENTRIES;
+    bool reads = strpbrk(routine->lists, "FPB") != NULL;
+    uint64_t read = input->float_count + input->pattern_count + input->byte_count;
+    uint64_t most = reads ? HEADER + 4 * read + 1 : MOST_ENTRIES;
     uint64_t room = input->wholes[place_of_room(routine->takes)];
     return room < most ? room : most;
+}
+
+/* A list that is read. */
+static struct list read_list(const struct routine *routine, const struct input *input, char letter) {
+    size_t single = single_floats(routine->takes);
+    if (letter == 'F')
+        return (struct list){input->floats + single, input->float_count - single};
+    if (letter == 'P')
+        return (struct list){input->patterns, input->pattern_count};
+    return (struct list){input->bytes, input->byte_count};
 }
 
 struct reply ask(const struct routine *routine, const struct input *input) {
     struct arguments in = {.floats = input->floats, .wholes = input->wholes};
     struct reply reply = {.list = NULL};
+    size_t size = entry_size(routine->lists[0]);
     for (size_t i = 0; routine->lists[i] != '\0'; i++) {
-        if (routine->lists[i] == 'F') {
-            size_t single = single_floats(routine->takes);
-            in.lists[i] = (struct list){input->floats + single, input->float_count - single};
-        } else if (routine->lists[i] == 'B') {
-            in.lists[i] = (struct list){input->bytes, input->byte_count};
+        if (is_read(routine->lists[i])) {
+            in.lists[i] = read_list(routine, input, routine->lists[i]);
         } else {
             in.lists[i].length = lent_length(routine, input);
-            in.lists[i].start = reply.list = lend(in.lists[i].length);
+            in.lists[i].start = reply.list = lend(size * in.lists[i].length);
         }
     }
     routine->call(&in, &reply.answer);
@@ -108,7 +129,11 @@ struct reply ask(const struct routine *routine, const struct input *input) {
     bool answered = answer->status == BGZ_ANSWERED;
     reply.damaged = !answered && !is_empty(routine, answer);
     reply.damaged |= answer->place != 0 && !tells_place(routine, answer->status);
-    if (reply.list != NULL)
-        reply.damaged |= is_damaged(reply.list, answered ? entries_written(routine, answer) : 0, in.lists[0].length);
+    if (reply.list != NULL) {
+        size_t written = answered ? entries_written(routine, answer) : 0;
+        /* A count past the room is damage whatever its bytes are. */
+        reply.damaged |= written > in.lists[0].length;
+        reply.damaged |= is_damaged(reply.list, size * written, size * in.lists[0].length);
+    }
     return reply;
 }

@@ -5,11 +5,16 @@
 #include "routines.h"
 #include <stdbool.h>
 
-/* What is handed to a routine: its floats, those of a list too, its whole numbers, rooms among them, and its bytes. */
+/*
+ * What is handed to a routine: its floats, those of a list too, its whole numbers, rooms among them, the bits of floats, and
+ * its bytes.
+ */
 struct input {
     float *floats;
     size_t float_count;
     uint64_t wholes[MOST_WHOLES];
+    uint32_t *patterns;
+    size_t pattern_count;
     uint8_t *bytes;
     size_t byte_count;
 };
@@ -17,8 +22,8 @@ struct input {
 /* What came back from a routine. */
 struct reply {
     struct answer answer;
-    /* The list that was lent, if one was, of whole numbers, patterns or floats; the asker frees it. */
-    uint32_t *list;
+    /* The list that was lent, if one was, by its letter; the asker frees it. */
+    void *list;
     /* Something was touched that should not have been: an entry of a list, a lent shape in a refused call. */
     bool damaged;
 };
@@ -43,6 +48,10 @@ bool is_empty(const struct routine *routine, const struct answer *answer);
 
 /* Whether the status is a refusal that tells a place. */
 bool tells_place(const struct routine *routine, uint32_t status);
+
+/* Whether a list is only read, and the bytes of one of its entries, by its letter. */
+bool is_read(char letter);
+size_t entry_size(char letter);
 
 /* How many entries an answer says were written to the first list. */
 size_t entries_written(const struct routine *routine, const struct answer *answer);

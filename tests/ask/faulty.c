@@ -1,6 +1,7 @@
 /* Routines that do what none may, in the place of the library's: ./ask and the hostile calls must tell. */
 #include "routines.h"
 #include "bagnoszyk.h"
+#include <string.h>
 
 static void two(const struct arguments *in, struct answer *out) {
     uint32_t *list = in->lists[0].start;
@@ -71,8 +72,21 @@ static void changing(const struct arguments *in, struct answer *out) {
     out->status = 1 + __sync_fetch_and_add(&calls, 1) % last_refusal;
 }
 
+static void two_bytes(const struct arguments *in, struct answer *out) {
+    memcpy(in->lists[0].start, "\1\2", 2);
+    out->status = BGZ_ANSWERED;
+    out->values[0].u = 2;
+}
+
+static void one_more_byte(const struct arguments *in, struct answer *out) {
+    memcpy(in->lists[0].start, "\1\2\3", 3);
+    out->status = BGZ_ANSWERED;
+    out->values[0].u = 2;
+}
+
 /* Refusal 3 tells a place. */
-#define ROW(name) {#name, #name, name, "r", "u", "l", "room", UINT32_C(1) << 3}
+#define ROW_OF(name, letter) {#name, #name, name, "r", letter, "l", "room", UINT32_C(1) << 3}
+#define ROW(name) ROW_OF(name, "u")
 
 const struct routine routines[] = {
     ROW(two),
@@ -87,6 +101,8 @@ const struct routine routines[] = {
     ROW(unknown_status),
     ROW(endless),
     ROW(changing),
+    ROW_OF(two_bytes, "b"),
+    ROW_OF(one_more_byte, "b"),
 };
 
 const size_t routine_count = sizeof routines / sizeof routines[0];

@@ -14,17 +14,20 @@ static const char HELP[] =
     "  float         eight hexadecimal digits of its bits, 3fc00000, or a decimal: 1.5, -0.25, 1e9, 12. Digits alone\n"
     "                are a decimal if there are at most six, and bits if there are eight; 1048576 is written 1048576.0.\n"
     "                Infinity and NaN are given as bits: 7f800000, 7fc00000.\n"
-    "  whole number  decimal; marked :u in the list. A room is the length of the list that is lent to the routine.\n"
-    "  list          any number of floats; marked :f* in the list.\n"
+    "  whole number  decimal; marked :u in the list. A room is the length of the list that is lent to the routine, in\n"
+    "                entries: floats for hatch.read, bytes for hatch.write. One for more than there can be is cut.\n"
+    "  list          any number of floats, marked :f* in the list; or of the bits of floats, eight digits each, which are\n"
+    "                kept as they are: marked :p*.\n"
     "  bytes         one word, two hexadecimal digits a byte, - for none; marked :b in the list.\n"
     "A point is x y; a range low high; an upright box min_x min_y max_x max_y; a turned box its centre cx cy and two\n"
     "half edges ux uy vx vy; a matrix nine numbers, column by column.\n"
     "\n"
     "An answer is floats as bits, any zero as 00000000 and any NaN as nan, or as decimals with --decimal; whole numbers;\n"
-    "1 for yes and 0 for no; a list as its count and its entries; none; 'refused N', by the numbers of bagnoszyk.h, with\n"
-    "the place after it where the refusal tells one; 'damaged' if a lent list was touched where it should not have been.\n"
-    "hatch.read answers the version of a hatch list and the bits of its floats, eight a record, as they are; and\n"
-    "hatch.read_floats the version and the floats.\n"
+    "1 for yes and 0 for no; a list as its count and its entries, bytes as one word; none; 'refused N', by the numbers of\n"
+    "bagnoszyk.h, with the place after it where the refusal tells one; 'damaged' if a lent list was touched where it\n"
+    "should not have been. hatch.read and hatch.write are bgz_hatch_read_patterns and bgz_hatch_write_patterns: they keep\n"
+    "the bits of floats, eight a record, as they are, with --decimal too; hatch.write_floats writes any NaN as 7fc00000.\n"
+    "What reads a hatch list answers its version and the list, what writes one its bytes.\n"
     "What is no request is answered 'bad request', and standard error says why.\n"
     "\n"
     "Exit status: 0; 1 if a request given as arguments is bad, or reading or writing fails.\n"
@@ -32,7 +35,8 @@ static const char HELP[] =
     "  ./ask --decimal aabb.line 0 0 4 2 6 -1 -1 1                        answers: 2 3\n"
     "  ./ask --decimal aabb.lines 0 0 4 2 6 6 -1 -1 1 6 -1 1 1            answers: 6 1 2 3 0 0 0, with room for six\n"
     "  ./ask edge2.overlapping_pixels_dda 8 8 0.5 0.5 7fc00000 0.5 9      answers: refused 15 2\n"
-    "  ./ask hatch.read 8 48534c02000000                                  answers: refused 11 3\n";
+    "  ./ask hatch.read 8 48534c02000000                                  answers: refused 11 3\n"
+    "  ./ask hatch.write 7                                                answers: 7 48534c01000000, a list of no records\n";
 
 /* Ends the program after a call that failed. */
 static void fail(const char *what) {
@@ -48,6 +52,17 @@ static void say(const char *text) {
     }
 }
 
+/* What stands after a field's name in the list. */
+static const char *mark_of(char letter) {
+    switch (letter) {
+    case 'f': return "";
+    case 'F': return ":f*";
+    case 'P': return ":p*";
+    case 'B': return ":b";
+    default: return ":u";
+    }
+}
+
 static void print_list(void) {
     for (const struct routine *r = routines; r < routines + routine_count; r++) {
         if (r->name == NULL)
@@ -56,8 +71,7 @@ static void print_list(void) {
         const char *field = r->fields;
         for (const char *letter = r->takes; *letter != '\0'; letter++) {
             int length = (int)strcspn(field, " ");
-            const char *mark = *letter == 'f' ? "" : *letter == 'F' ? ":f*" : *letter == 'B' ? ":b" : ":u";
-            printf(" %.*s%s", length, field, mark);
+            printf(" %.*s%s", length, field, mark_of(*letter));
             field += length + 1;
         }
         printf("\n");

@@ -516,6 +516,22 @@ static void hatch_record_count(const struct arguments *in, struct answer *out) {
     out->values[0].u = r;
 }
 
+static void hatch_write_patterns(const struct arguments *in, struct answer *out) {
+    bgz_count_answer r = bgz_hatch_write_patterns(
+        in->lists[1].start, in->lists[1].length, in->lists[0].start, in->lists[0].length);
+    out->status = r.status;
+    out->place = r.place;
+    out->values[0].u = r.count;
+}
+
+static void hatch_write_floats(const struct arguments *in, struct answer *out) {
+    bgz_count_answer r = bgz_hatch_write_floats(
+        in->lists[1].start, in->lists[1].length, in->lists[0].start, in->lists[0].length);
+    out->status = r.status;
+    out->place = r.place;
+    out->values[0].u = r.count;
+}
+
 static void hatch_report(const struct arguments *in, struct answer *out) {
     size_t r = bgz_hatch_report(in->lists[1].start, in->lists[1].length, in->lists[0].start, in->lists[0].length);
     out->status = BGZ_ANSWERED;
@@ -648,6 +664,10 @@ const struct routine routines[] = {
      "room bytes", AT(ROOM) | AT(MARK) | AT(VERSION) | AT(COUNT) | AT(LENGTH)},
     {"hatch.record_count", CALL(hatch_record_count), "F", "F", "u",
      "floats", 0},
+    {"hatch.write", CALL(hatch_write_patterns), "rP", "bP", "l",
+     "room patterns", 0},
+    {"hatch.write_floats", CALL(hatch_write_floats), "rF", "bF", "l",
+     "room floats", 0},
     {NULL, CALL(hatch_report), "rB", "bB", "u",
      "room bytes", 0},
 };

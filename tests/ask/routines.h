@@ -45,13 +45,13 @@ struct routine {
     void (*call)(const struct arguments *in, struct answer *out);
     /*
      * A letter for each field of a request: f is a float and u a whole number; r is the room of a list to be written,
-     * and takes a place among the whole numbers; F is the floats of a list, as many as there are, and B its bytes. Lists
-     * of no fixed length stand last.
+     * and takes a place among the whole numbers; F is the floats of a list, as many as there are, P the bits of floats,
+     * and B its bytes. Lists of no fixed length stand last.
      */
     const char *takes;
     /*
-     * The lists among them: u (uint32_t), p (uint32_t, the bits of a float), f (float) and b (uint8_t) are written to, F
-     * and B are read.
+     * The lists among them: u (uint32_t), p (uint32_t, the bits of a float), f (float) and b (uint8_t) are written to, F,
+     * P (uint32_t) and B are read.
      */
     const char *lists;
     /*

@@ -48,6 +48,12 @@ static const char *read_whole(const char *field, uint64_t *n) {
     return has_only(field, DIGITS) && errno == 0 ? NULL : "no whole number of 64 bits";
 }
 
+/* Null, or what the field is instead of the bits of a float. */
+static const char *read_pattern(const char *field, uint32_t *bits) {
+    *bits = (uint32_t)strtoul(field, NULL, 16);
+    return has_only(field, HEX_DIGITS) && strlen(field) == 8 ? NULL : "not eight hexadecimal digits";
+}
+
 /* Null, or what the field is instead of bytes. */
 static const char *read_bytes(const char *field, uint8_t *bytes, size_t *count) {
     if (strcmp(field, "-") == 0)
@@ -119,8 +125,8 @@ static const char *field_name(const struct routine *routine, size_t place, int *
 /* Whether there are as many fields as a routine takes; a list takes any number. */
 static bool right_count(struct request *request, size_t given) {
     const struct routine *routine = request->routine;
-    size_t single = strcspn(routine->takes, "F");
-    bool list = routine->takes[single] == 'F';
+    size_t single = strcspn(routine->takes, "FP");
+    bool list = routine->takes[single] != '\0';
     if (given == single || (list && given > single))
         return true;
     snprintf(request->reason, sizeof request->reason, "%s takes %zu field%s%s, %zu given", routine->name, single,
@@ -132,6 +138,8 @@ static bool right_count(struct request *request, size_t given) {
 static const char *read_field(struct input *input, char letter, const char *field, size_t *whole_count) {
     if (letter == 'f' || letter == 'F')
         return read_float(field, &input->floats[input->float_count++]);
+    if (letter == 'P')
+        return read_pattern(field, &input->patterns[input->pattern_count++]);
     if (letter == 'B')
         return read_bytes(field, input->bytes, &input->byte_count);
     return read_whole(field, &input->wholes[(*whole_count)++]);
@@ -151,7 +159,7 @@ static bool read_fields(struct request *request, char *rest) {
             return false;
         }
         /* A list goes on to the end. */
-        place += takes[place] != 'F';
+        place += takes[place] != 'F' && takes[place] != 'P';
     }
     return true;
 }
@@ -181,13 +189,20 @@ bool read_request(char *line, struct request *request) {
     }
     if (!right_count(request, count_fields(rest)))
         return false;
-    request->input.floats = calloc(most + 1, sizeof *request->input.floats);
-    request->input.bytes = calloc(most + 1, sizeof *request->input.bytes);
-    return request->input.floats != NULL && request->input.bytes != NULL && read_fields(request, rest);
+    struct input *input = &request->input;
+    input->floats = calloc(most + 1, sizeof *input->floats);
+    input->patterns = calloc(most + 1, sizeof *input->patterns);
+    input->bytes = calloc(most + 1, sizeof *input->bytes);
+    if (input->floats == NULL || input->patterns == NULL || input->bytes == NULL) {
+        perror("no memory for a request");
+        exit(1);
+    }
+    return read_fields(request, rest);
 }
 
 void free_request(struct request *request) {
     free(request->input.floats);
+    free(request->input.patterns);
     free(request->input.bytes);
 }
 
@@ -221,6 +236,9 @@ char *request_text(const struct routine *routine, const struct input *input) {
             fprintf(out, " %" PRIu64, *wholes++);
         else if (*letter == 'B')
             write_bytes(out, input->bytes, input->byte_count);
+        else if (*letter == 'P')
+            for (size_t i = 0; i < input->pattern_count; i++)
+                fprintf(out, " %08" PRIx32, input->patterns[i]);
         for (bool more = *letter == 'f' || *letter == 'F'; more && floats < end; more = *letter == 'F') {
             uint32_t bits;
             memcpy(&bits, floats++, sizeof bits);
@@ -240,14 +258,18 @@ static void write_value(FILE *out, char letter, union value value, bool decimal)
         fprintf(out, "%" PRIu64, value.u);
 }
 
-/* Entries of a list by its letter, each after a space. */
-static void write_entries(FILE *out, char letter, const uint32_t *list, size_t count, bool decimal) {
+/* Entries of a list by its letter, each after a space; bytes as one word. */
+static void write_entries(FILE *out, char letter, const void *list, size_t count, bool decimal) {
+    if (letter == 'b') {
+        write_bytes(out, list, count);
+        return;
+    }
     for (size_t i = 0; i < count; i++) {
         fputs(" ", out);
         if (letter == 'f')
             write_float(out, ((const float *)list)[i], decimal);
         else
-            fprintf(out, letter == 'p' ? "%08" PRIx32 : "%" PRIu32, list[i]);
+            fprintf(out, letter == 'p' ? "%08" PRIx32 : "%" PRIu32, ((const uint32_t *)list)[i]);
     }
 }
 

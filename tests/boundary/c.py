@@ -54,11 +54,13 @@ def parameters(parameter):
 
 def function(f, model):
     opening = f"{type_name(f.result)} {f.symbol}("
-    handed = ", ".join(text for p in f.parameters for text in parameters(p))
+    # A line breaks between parameters, and within none.
+    handed = ", ".join(text.replace(" ", "\xa0") for p in f.parameters for text in parameters(p))
     status = ["Answers the status."] if f.enum and f.result not in model.structs else []
     told = list(paragraphs(f.comment))
     yield from comment(told[:1] + status + told[1:], model)
-    yield from textwrap.wrap(f"{opening}{handed});", WIDTH, subsequent_indent=" " * len(opening), break_long_words=False)
+    for line in textwrap.wrap(f"{opening}{handed});", WIDTH, subsequent_indent=" " * len(opening), break_long_words=False):
+        yield line.replace("\xa0", " ")
 
 
 def struct(s, model):

@@ -16,11 +16,19 @@ NAMES = {
     "bgz_aabb_intersections_against_ray": "aabb.ray",
     "bgz_aabb_is_include_point": "aabb.include",
     "bgz_hatch_read_patterns": "hatch.read",
+    "bgz_hatch_write_patterns": "hatch.write",
 }
 # The letters of struct routine: a number that is none of these is a whole number; a list by its entries and whether it is written.
 NUMBERS = {"f32": "f", "i32": "i"}
-LISTS = {("u32", True): "u", ("f32", True): "f", ("u8", True): "b", ("f32", False): "F", ("u8", False): "B"}
-# Functions whose u32 are the bits of floats.
+LISTS = {
+    ("u32", True): "u",
+    ("f32", True): "f",
+    ("u8", True): "b",
+    ("u32", False): "P",
+    ("f32", False): "F",
+    ("u8", False): "B",
+}
+# Functions that write the bits of floats, as u32.
 PATTERNS = {"bgz_hatch_read_patterns"}
 # What an answer tells of the first list, in the place of its last number.
 WRITTEN = {"CountAnswer": "l", "ReadAnswer": "e"}
@@ -102,9 +110,9 @@ class Call:
 
     @property
     def request(self):
-        """The name in requests, as C text. The report is asked for by the program hatch_clip."""
+        """The name in requests, as C text. The report is text, and is asked for by the program hatch_clip."""
         name = NAMES.get(self.function.symbol, f"{self.function.module}.{self.function.name}")
-        return "NULL" if "b" in self.lists else f'"{name}"'
+        return f'"{name}"' if "b" not in self.lists or self.function.result in WRITTEN else "NULL"
 
     @property
     def gives(self):

@@ -45,14 +45,6 @@ static void hold(const struct caller *caller, bool holds, const char *what) {
 
 /* ---- lists */
 
-static bool is_read(char letter) {
-    return letter == 'F' || letter == 'B';
-}
-
-static size_t entry_size(char letter) {
-    return letter == 'b' || letter == 'B' ? 1 : 4;
-}
-
 static size_t bytes_of(const struct caller *caller, size_t i) {
     return caller->in.lists[i].length * entry_size(caller->routine->lists[i]);
 }
@@ -65,15 +57,20 @@ static void place(struct caller *caller, size_t i, size_t length) {
 }
 
 /* What a list that is read holds, made first in its copy. */
-static void make_read(struct caller *caller, size_t i) {
+static void make_read(struct caller *caller, size_t i, bool large) {
     unsigned char *copy = caller->copies[i];
     size_t length;
     if (caller->routine->lists[i] == 'B') {
-        length = hostile_bytes(&caller->random, copy, FENCED);
+        length = hostile_bytes(&caller->random, copy, large);
     } else {
-        float floats[64];
-        length = hostile_length(&caller->random, 64);
-        hostile_floats(&caller->random, floats, length);
+        float floats[FENCED / sizeof(float)];
+        /* Records for the routines that write hatch lists, any floats for the others. */
+        if (caller->routine->lists[0] == 'b') {
+            length = hostile_records(&caller->random, floats, large);
+        } else {
+            length = hostile_length(&caller->random, 64);
+            hostile_floats(&caller->random, floats, length);
+        }
         memcpy(copy, floats, length * sizeof *floats);
     }
     place(caller, i, length);
@@ -210,11 +207,14 @@ void call_often(struct caller *caller, const struct routine *routine, uint64_t c
         hostile_floats(&caller->random, caller->floats, MOST_FLOATS);
         for (size_t i = 0; i < MOST_WHOLES; i++)
             caller->wholes[i] = hostile_whole(&caller->random);
+        /* Hatch lists of as many records as there can be, and lists with room for all of them. */
+        bool large = random_below(&caller->random, 1000) == 0;
         for (size_t i = 0; routine->lists[i] != '\0'; i++) {
+            size_t most = FENCED / entry_size(routine->lists[i]);
             if (is_read(routine->lists[i]))
-                make_read(caller, i);
+                make_read(caller, i, large);
             else
-                place(caller, i, hostile_length(&caller->random, FENCED / 4));
+                place(caller, i, large ? most : hostile_length(&caller->random, most));
         }
         call_as_it_is(caller);
     }

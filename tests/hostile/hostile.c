@@ -70,7 +70,7 @@ static void make_requests(struct caller *caller) {
             continue;
         if (!read_request(line, &request))
             fail("bad request", request.reason);
-        if (strpbrk(request.routine->lists, "FB") != NULL)
+        if (strpbrk(request.routine->lists, "FPB") != NULL)
             fail("a request with a list that is read", request.routine->name);
         call_with(caller, &request);
         free_request(&request);

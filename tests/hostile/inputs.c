@@ -104,10 +104,18 @@ size_t hostile_length(struct random *random, size_t most) {
     return length < most ? length : most;
 }
 
-/* ---- bytes */
+/* ---- hatch lists */
 
-size_t hostile_bytes(struct random *random, uint8_t *bytes, size_t most) {
-    size_t records = random_below(random, 1000) == 0 ? 2000 : random_below(random, 6);
+size_t hostile_records(struct random *random, float *floats, bool large) {
+    size_t records = large ? 2000 + random_below(random, 2) : random_below(random, 6);
+    size_t length = 8 * records + (random_below(random, 3) == 0 ? random_below(random, 8) : 0);
+    for (size_t i = 0; i < length; i += 8)
+        hostile_floats(random, floats + i, length - i < 8 ? length - i : 8);
+    return length;
+}
+
+size_t hostile_bytes(struct random *random, uint8_t *bytes, bool large) {
+    size_t records = large ? 2000 : random_below(random, 6);
     size_t length = 7 + 32 * records;
     memcpy(bytes, "HSL\1\0", 5);
     bytes[5] = (uint8_t)records;
@@ -123,7 +131,7 @@ size_t hostile_bytes(struct random *random, uint8_t *bytes, size_t most) {
     /* The header is short, and decides most. */
     case 1: bytes[bits % 7] = (uint8_t)(bits >> 32); break;
     case 2: length = bits % length; break;
-    case 3: length += length < most; break;
+    case 3: length++; break;
     default: break;
     }
     return length;

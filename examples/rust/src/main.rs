@@ -1,5 +1,5 @@
-//! Clips a hatch list line by line, and one of its faces in one call; then lists the pixels of two strokes and the
-//! tiles of a box.
+//! Clips a hatch list line by line, and one of its faces in one call, and makes the bytes to save with a line corrected;
+//! then lists the pixels of two strokes and the tiles of a box.
 //!
 //! ```text
 //! ./install PREFIX
@@ -7,7 +7,9 @@
 //! BAGNOSZYK_STATICLIB=PREFIX/lib cargo run -- ../section.hsl
 //! ```
 
-use bagnoszyk::limits::{HATCH_FLOATS_MAX, LINE_RESULT_FLOATS};
+use bagnoszyk::limits::{
+    HATCH_BYTES_MAX, HATCH_FLOATS_MAX, HATCH_RECORD_FLOATS, LINE_RESULT_FLOATS,
+};
 use bagnoszyk::{Aabb2, Interval, Refusal, RefusalAt, Vec2, aabb, aabb2, edge2, hatch};
 use std::process::ExitCode;
 use std::{env, fs};
@@ -89,6 +91,19 @@ fn print_face(lines: &[Line]) -> Result<(), Refusal> {
     Ok(())
 }
 
+/// Negates the direction's x of the first record, so that its line leans the other way, and makes the bytes to store. Records are saved by
+/// their bits: what is not corrected stays as it was, byte for byte. There is a record.
+fn print_saved(bytes: &[u8]) -> Result<(), RefusalAt> {
+    let mut patterns = vec![0; HATCH_FLOATS_MAX];
+    let count = hatch::read_patterns(bytes, &mut patterns)?.count;
+    patterns[6] = (-f32::from_bits(patterns[6])).to_bits();
+    let mut saved = vec![0; HATCH_BYTES_MAX];
+    let size = hatch::write_patterns(&patterns[..HATCH_RECORD_FLOATS * count], &mut saved)?;
+    let changed = saved[..size].iter().zip(bytes).filter(|(new, old)| new != old).count();
+    println!("to save: {size} bytes, {changed} changed");
+    Ok(())
+}
+
 fn print_list(what: &str, list: &[u32]) {
     let entries: Vec<_> = list.iter().map(u32::to_string).collect();
     println!("{what}: {}", entries.join(" "));
@@ -101,6 +116,9 @@ fn run(bytes: &[u8]) -> Result<(), RefusalAt> {
     let lines: Vec<_> = records.map(Line::new).collect();
     print_section(&lines);
     print_face(&lines)?;
+    if !lines.is_empty() {
+        print_saved(bytes)?;
+    }
 
     // A stroke and its falling twin, in an image of 8 by 8 pixels.
     let mut list = [0; 16];

@@ -1,4 +1,5 @@
-//! Document 01's hatch list with document 02's places, read plainly: what the library's reader is compared with, and timed against.
+//! Document 01's hatch list with document 02's places, read and written plainly: what the library's reader and writer are compared with, and
+//! timed against.
 
 pub struct Records<'a> {
     pub version: usize,
@@ -7,7 +8,7 @@ pub struct Records<'a> {
     pub floats: &'a [[u8; 4]],
 }
 
-/// A refusal by its number, and its place: of a file the byte.
+/// A refusal: its number, and its place, which for a file that is read is a byte, and 0 where none is told.
 pub struct Refused {
     pub number: u32,
     pub place: usize,
@@ -35,4 +36,41 @@ pub fn read(bytes: &[u8], room: usize) -> Result<Records<'_>, Refused> {
     } else {
         Ok(Records { version, count, floats: records.as_chunks().0 })
     }
+}
+
+/// The bytes of the records of these patterns, eight each, in a list of their own. An incomplete last record does not count.
+pub fn written(patterns: &[u32]) -> Result<Vec<u8>, Refused> {
+    let records = counted(patterns)?;
+    let mut file = Vec::with_capacity(7 + 32 * records.len());
+    file.extend(header(records));
+    for pattern in records.as_flattened() {
+        file.extend(pattern.to_le_bytes());
+    }
+    Ok(file)
+}
+
+/// Writes them to the start of a list, and tells how many they are.
+pub fn write(patterns: &[u32], out: &mut [u8]) -> Result<usize, Refused> {
+    let records = counted(patterns)?;
+    let size = 7 + 32 * records.len();
+    let Some((start, body)) = out.get_mut(..size).and_then(|file| file.split_at_mut_checked(7))
+    else {
+        return Err(Refused { number: 1, place: 0 });
+    };
+    start.copy_from_slice(&header(records));
+    for (bytes, pattern) in body.as_chunks_mut().0.iter_mut().zip(records.as_flattened()) {
+        *bytes = pattern.to_le_bytes();
+    }
+    Ok(size)
+}
+
+/// The records, if they are not too many.
+fn counted(patterns: &[u32]) -> Result<&[[u32; 8]], Refused> {
+    let (records, _) = patterns.as_chunks();
+    if records.len() > 2000 { Err(Refused { number: 12, place: 0 }) } else { Ok(records) }
+}
+
+fn header(records: &[[u32; 8]]) -> [u8; 7] {
+    let [low, high] = (records.len() as u16).to_le_bytes();
+    [b'H', b'S', b'L', 1, 0, low, high]
 }

@@ -18,7 +18,7 @@ pub struct Answer {
     count: usize,
     /// Floats by their bits, whole numbers as they are, negative ones in two's complement.
     values: [u64; MOST_VALUES],
-    /// What was written to a lent list, floats by their bits; its count is the last number.
+    /// What was written to a lent list, floats by their bits, bytes as numbers; its count is the last number.
     pub list: Vec<u32>,
     /// A lent list was touched where it should not have been.
     pub damaged: bool,
@@ -109,6 +109,12 @@ impl From<bool> for Answer {
 impl From<Vec<u32>> for Answer {
     fn from(list: Vec<u32>) -> Self {
         Answer::with_list([list.len() as u64], list)
+    }
+}
+
+impl From<Vec<u8>> for Answer {
+    fn from(list: Vec<u8>) -> Self {
+        list.into_iter().map(u32::from).collect::<Vec<_>>().into()
     }
 }
 

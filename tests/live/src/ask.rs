@@ -4,11 +4,13 @@ use crate::answer::{Answer, MOST_VALUES, bits};
 use std::ffi::{CStr, CString, c_char, c_void};
 use std::{ptr, slice};
 
-/// The arguments of a request: its floats in their order, its whole numbers in theirs, rooms among them, and its bytes.
+/// The arguments of a request: its floats in their order, its whole numbers in theirs, rooms among them, the bits of floats, and its
+/// bytes.
 #[derive(Clone, Debug, Default)]
 pub struct Args {
     pub floats: Vec<f32>,
     pub wholes: Vec<u64>,
+    pub patterns: Vec<u32>,
     pub bytes: Vec<u8>,
 }
 
@@ -21,6 +23,8 @@ impl Args {
             floats: self.floats.as_ptr().cast_mut(),
             float_count: self.floats.len(),
             wholes,
+            patterns: self.patterns.as_ptr().cast_mut(),
+            pattern_count: self.patterns.len(),
             bytes: self.bytes.as_ptr().cast_mut(),
             byte_count: self.bytes.len(),
         }
@@ -81,6 +85,8 @@ mod c {
         pub floats: *mut f32,
         pub float_count: usize,
         pub wholes: [u64; MOST_WHOLES],
+        pub patterns: *mut u32,
+        pub pattern_count: usize,
         pub bytes: *mut u8,
         pub byte_count: usize,
     }
@@ -88,7 +94,7 @@ mod c {
     #[repr(C)]
     pub struct Reply {
         pub answer: Answer,
-        pub list: *mut u32,
+        pub list: *mut c_void,
         pub damaged: bool,
     }
 
@@ -141,6 +147,7 @@ pub fn read(line: &str) -> Option<(&'static Routine, Args)> {
         let args = good.then(|| Args {
             floats: slice::from_raw_parts(input.floats, input.float_count).to_vec(),
             wholes: input.wholes.to_vec(),
+            patterns: slice::from_raw_parts(input.patterns, input.pattern_count).to_vec(),
             bytes: slice::from_raw_parts(input.bytes, input.byte_count).to_vec(),
         });
         c::free_request(&mut request);
@@ -163,10 +170,22 @@ impl Routine {
         unsafe { CStr::from_ptr(self.gives) }.to_bytes()
     }
 
-    /// An entry of a list that was lent to it, such that equal ones compare equal.
-    fn entry(&self, entry: u32) -> u32 {
-        let floats = unsafe { CStr::from_ptr(self.lists) }.to_bytes().starts_with(b"f");
-        if floats { bits(f32::from_bits(entry)) } else { entry }
+    /// The letter of the list that is lent to it.
+    fn list(&self) -> Option<&u8> {
+        unsafe { CStr::from_ptr(self.lists) }.to_bytes().first()
+    }
+
+    /// The first entries of that list, such that equal ones compare equal.
+    fn entries(&self, list: *const c_void, count: usize) -> Vec<u32> {
+        if self.list() == Some(&b'b') {
+            let bytes = unsafe { slice::from_raw_parts(list.cast::<u8>(), count) };
+            return bytes.iter().map(|byte| (*byte).into()).collect();
+        }
+        let entries = unsafe { slice::from_raw_parts(list.cast::<u32>(), count) };
+        match self.list() {
+            Some(b'f') => entries.iter().map(|entry| bits(f32::from_bits(*entry))).collect(),
+            _ => entries.to_vec(),
+        }
     }
 
     /// The library's answer.
@@ -184,12 +203,10 @@ impl Routine {
                 }
             }
             if !reply.list.is_null() {
-                let list =
-                    unsafe { slice::from_raw_parts(reply.list, c::entries_written(self, told)) };
-                answer.list = list.iter().map(|entry| self.entry(*entry)).collect();
+                answer.list = self.entries(reply.list, unsafe { c::entries_written(self, told) });
             }
         }
-        unsafe { c::free(reply.list.cast()) };
+        unsafe { c::free(reply.list) };
         answer
     }
 
@@ -202,8 +219,13 @@ impl Routine {
     pub fn show(&self, answer: &Answer) -> String {
         let (status, place, damaged) = (answer.status, answer.place, answer.damaged);
         let values = answer.values().map(|whole| c::Value { whole });
-        let list = answer.list.as_ptr().cast_mut();
-        let reply = c::Reply { answer: c::Answer { status, place, values }, list, damaged };
+        let bytes: Vec<u8> = answer.list.iter().map(|entry| *entry as u8).collect();
+        let list = match self.list() {
+            Some(b'b') => bytes.as_ptr().cast(),
+            _ => answer.list.as_ptr().cast::<c_void>(),
+        };
+        let answer = c::Answer { status, place, values };
+        let reply = c::Reply { answer, list: list.cast_mut(), damaged };
         owned(unsafe { c::reply_text(self, ptr::from_ref(&reply), false) })
     }
 }

@@ -1,4 +1,4 @@
-//! Random inputs for each routine, the places of refusals, reports on hatch lists, and the tiles by brute force.
+//! Random inputs for each routine, the places of refusals, hatch lists written and read, reports on them, and the tiles by brute force.
 
 use crate::cover;
 use crate::figures;
@@ -7,6 +7,7 @@ use crate::inputs::Inputs;
 use crate::options::Options;
 use crate::pairs::pairs;
 use crate::places;
+use crate::saved;
 
 pub fn run(options: &Options) -> Result<(), String> {
     println!(
@@ -26,6 +27,7 @@ pub fn run(options: &Options) -> Result<(), String> {
     println!("{} routines, {total} inputs, no difference, seed {}", pairs.len(), options.seed);
     if options.only.is_empty() {
         places::run()?;
+        saved::run(options.seed, count)?;
         hatch::run(options.seed, count)?;
         cover::run(options)?;
     }

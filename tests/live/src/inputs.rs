@@ -8,7 +8,7 @@ mod source;
 mod touch;
 mod wholes;
 
-pub use file::hatch_list;
+pub use file::{damage, hatch_list};
 pub use kinds::{Kind, mirror};
 
 use crate::ask::Args;
@@ -65,6 +65,7 @@ impl Inputs {
     fn make(&mut self) {
         self.args.floats.clear();
         self.args.wholes.clear();
+        self.args.patterns.clear();
         self.args.bytes.clear();
         let source = Source::random(&mut self.random);
         for kind in self.row.shape {

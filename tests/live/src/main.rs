@@ -13,6 +13,7 @@ mod options;
 mod pairs;
 mod places;
 mod random;
+mod saved;
 mod tally;
 mod vectors;
 

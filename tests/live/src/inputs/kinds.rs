@@ -28,11 +28,15 @@ pub enum Kind {
     Tiles,
     /// Room, and the bytes of a hatch list.
     File,
+    /// Room, and the floats of records.
+    Records,
+    /// Room, and the bits of the floats of records.
+    Bits,
 }
 
 impl Kind {
-    /// A letter for each of its numbers: f is a float, u a whole number, r the room of a list, F a list of floats, B of
-    /// bytes.
+    /// A letter for each of its numbers: f is a float, u a whole number, r the room of a list, F a list of floats, P of
+    /// the bits of floats, B of bytes.
     pub fn takes(self) -> &'static str {
         match self {
             Kind::Float | Kind::Radius => "f",
@@ -42,10 +46,11 @@ impl Kind {
             Kind::Matrix => "fffffffff",
             Kind::Side | Kind::Index => "u",
             Kind::Floats => "F",
-            Kind::Lines => "rF",
+            Kind::Lines | Kind::Records => "rF",
             Kind::Stroke => "uuffffr",
             Kind::Tiles => "ffffuuur",
             Kind::File => "rB",
+            Kind::Bits => "rP",
         }
     }
 

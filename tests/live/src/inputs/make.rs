@@ -9,8 +9,11 @@ use crate::random::Random;
 
 /// Adds an argument.
 pub fn make(kind: Kind, source: Source, random: &mut Random, args: &mut Args) {
-    if kind == Kind::File {
-        return file::make(source, random, args);
+    match kind {
+        Kind::File => return file::make(source, random, args),
+        Kind::Records => return file::make_records(source, random, args),
+        Kind::Bits => return file::make_bits(source, random, args),
+        _ => {}
     }
     let start = args.floats.len();
     for _ in 0..kind.floats().unwrap_or_else(|| list_length(kind, random)) {

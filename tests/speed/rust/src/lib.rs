@@ -109,7 +109,7 @@ pub extern "C" fn sqrt(x: f32) -> f32 {
     x.sqrt()
 }
 
-/// The Rust has no hatch list: this reader is ours.
+/// The Rust has no hatch list: the reader and the writer are ours.
 ///
 /// # Safety
 /// The bytes and the list start where they are said to, with the lengths given.
@@ -120,12 +120,37 @@ pub unsafe extern "C" fn read_floats(
     list: *mut f32,
     room: usize,
 ) -> ReadAnswer {
+    unsafe { read(bytes, length, list, room, f32::from_le_bytes) }
+}
+
+/// # Safety
+/// As of `read_floats`.
+#[inline(never)]
+pub unsafe extern "C" fn read_patterns(
+    bytes: *const u8,
+    length: usize,
+    list: *mut u32,
+    room: usize,
+) -> ReadAnswer {
+    unsafe { read(bytes, length, list, room, u32::from_le_bytes) }
+}
+
+/// # Safety
+/// As of `read_floats`.
+#[inline(always)]
+unsafe fn read<T>(
+    bytes: *const u8,
+    length: usize,
+    list: *mut T,
+    room: usize,
+    entry: impl Fn([u8; 4]) -> T,
+) -> ReadAnswer {
     let bytes = unsafe { std::slice::from_raw_parts(bytes, length) };
     let list = unsafe { std::slice::from_raw_parts_mut(list, room) };
     match hatch_list::read(bytes, room) {
         Ok(hatch_list::Records { version, count, floats }) => {
             for (place, &float) in list.iter_mut().zip(floats) {
-                *place = f32::from_le_bytes(float);
+                *place = entry(float);
             }
             ReadAnswer { status: ANSWERED, version, count, place: 0 }
         }
@@ -133,6 +158,29 @@ pub unsafe extern "C" fn read_floats(
             ReadAnswer { status, version: 0, count: 0, place }
         }
     }
+}
+
+/// # Safety
+/// The lists start where they are said to, with the lengths given.
+#[inline(never)]
+pub unsafe extern "C" fn write_patterns(
+    patterns: *const u32,
+    length: usize,
+    bytes: *mut u8,
+    room: usize,
+) -> CountAnswer {
+    let patterns = unsafe { std::slice::from_raw_parts(patterns, length) };
+    let bytes = unsafe { std::slice::from_raw_parts_mut(bytes, room) };
+    match hatch_list::write(patterns, bytes) {
+        Ok(count) => CountAnswer { status: ANSWERED, count, place: 0 },
+        Err(refused) => CountAnswer { status: refused.number, count: 0, place: 0 },
+    }
+}
+
+/// The same into a list of its own, as one would write it who is lent none.
+#[inline(never)]
+pub fn written(patterns: &[u32]) -> Option<Vec<u8>> {
+    hatch_list::written(patterns).ok()
 }
 
 fn copied(entries: impl Iterator<Item = usize>, count: usize, list: &mut [u32]) -> CountAnswer {

@@ -1,4 +1,4 @@
-//! Reading a hatch list and clipping its records, as the hatch program does before it prints.
+//! Reading a hatch list and clipping its records, as the hatch program does before it prints; and writing one and reading it back.
 
 use super::{Sized, calls};
 use crate::measure::Case;
@@ -12,12 +12,24 @@ const RECORDS: usize = 2000;
 /// A file, and the list for its floats.
 type File = (Vec<u8>, RefCell<Vec<f32>>);
 
+/// The bits of the floats of records, the list for their file, and the list to read it back into.
+type Save = (Vec<u32>, RefCell<Vec<u8>>, RefCell<Vec<u32>>);
+
 pub fn cases() -> Vec<Case> {
-    vec![file(RECORDS)]
+    vec![
+        file(RECORDS),
+        save(RECORDS, "the Rust in a Vec", saved_in_a_vec).goal(1.0),
+        save(RECORDS, "the Rust in the same list", saved_in_the_list).goal(1.0),
+    ]
 }
 
 pub fn sized() -> Vec<Sized> {
-    [1, 20, 200, 2000].map(|records| Sized::new("file: a record", file(records))).into()
+    let sizes = [1, 20, 200, 2000];
+    let read = sizes.map(|records| Sized::new("file: a record", file(records)));
+    let saved = sizes.map(|records| {
+        Sized::new("save: a record", save(records, "the Rust in the same list", saved_in_the_list))
+    });
+    read.into_iter().chain(saved).collect()
 }
 
 fn file(records: usize) -> Case {
@@ -68,4 +80,40 @@ fn clipped(floats: &[f32], clip: impl Fn(Aabb2, Vec2, Vec2) -> Option<Interval>)
         clip(b, Vec2 { x, y }, Vec2 { x: dx, y: dy }).map_or(0.0, |t| t.tmax - t.tmin)
     };
     records.iter().map(inside).sum()
+}
+
+/// What is written and read back: how many bytes, how many records, and the last pattern.
+type Saved = (usize, usize, u32);
+
+fn save(records: usize, other: &str, rust: fn(&Save) -> Saved) -> Case {
+    let name = format!("save: {records} records, written and read back; {other}");
+    let (file, _) = made(records);
+    let words = file[7..].as_chunks().0.iter().map(|word| u32::from_le_bytes(*word));
+    let lists = (words.collect(), RefCell::new(file), RefCell::new(vec![0; 8 * records]));
+    Case { units: records, ..calls(&name, vec![lists], saved, rust) }
+}
+
+fn saved((patterns, bytes, read): &Save) -> Saved {
+    let (bytes, read) = (&mut bytes.borrow_mut()[..], &mut read.borrow_mut()[..]);
+    let size = hatch::write_patterns(patterns, bytes).unwrap();
+    let records = hatch::read_patterns(&bytes[..size], read).unwrap();
+    (size, records.count, read[patterns.len() - 1])
+}
+
+fn saved_in_a_vec((patterns, _, read): &Save) -> Saved {
+    let bytes = rust_abi::written(patterns).unwrap();
+    read_by_rust(&bytes, &mut read.borrow_mut())
+}
+
+fn saved_in_the_list((patterns, bytes, read): &Save) -> Saved {
+    let bytes = &mut bytes.borrow_mut()[..];
+    let (room, out) = (bytes.len(), bytes.as_mut_ptr());
+    let size = unsafe { rust_abi::write_patterns(patterns.as_ptr(), patterns.len(), out, room) };
+    read_by_rust(&bytes[..size.count], &mut read.borrow_mut())
+}
+
+fn read_by_rust(bytes: &[u8], read: &mut [u32]) -> Saved {
+    let (list, room) = (read.as_mut_ptr(), read.len());
+    let records = unsafe { rust_abi::read_patterns(bytes.as_ptr(), bytes.len(), list, room) };
+    (bytes.len(), records.count, read[8 * records.count - 1])
 }
