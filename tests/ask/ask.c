@@ -47,11 +47,14 @@ static uint8_t *lend(size_t bytes) {
     return list;
 }
 
-/* Whether more bytes were written than there was room for, or one after those that were, the guard among them. */
-static bool is_damaged(const uint8_t *list, size_t written, size_t room) {
+/*
+ * Whether more entries, of so many bytes, were written than there was room for, or a byte after those that were, the guard
+ * among them.
+ */
+static bool is_damaged(const uint8_t *list, size_t size, size_t written, size_t room) {
     if (written > room)
         return true;
-    for (size_t i = written; i < room + GUARD; i++)
+    for (size_t i = size * written; i < size * room + GUARD; i++)
         if (list[i] != filling(i))
             return true;
     return false;
@@ -131,9 +134,7 @@ struct reply ask(const struct routine *routine, const struct input *input) {
     reply.damaged |= answer->place != 0 && !tells_place(routine, answer->status);
     if (reply.list != NULL) {
         size_t written = answered ? entries_written(routine, answer) : 0;
-        /* A count past the room is damage whatever its bytes are. */
-        reply.damaged |= written > in.lists[0].length;
-        reply.damaged |= is_damaged(reply.list, size * written, size * in.lists[0].length);
+        reply.damaged |= is_damaged(reply.list, size, written, in.lists[0].length);
     }
     return reply;
 }

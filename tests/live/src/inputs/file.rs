@@ -82,8 +82,6 @@ fn room(entries: usize, random: &mut Random) -> u64 {
 
 /// The file of these records, eight floats each.
 pub fn hatch_list(floats: &[f32]) -> Vec<u8> {
-    let mut file = b"HSL\x01\0".to_vec();
-    file.extend((floats.len() as u16 / 8).to_le_bytes());
-    file.extend(floats.iter().flat_map(|x| x.to_le_bytes()));
-    file
+    let patterns: Vec<_> = floats.iter().map(|x| x.to_bits()).collect();
+    hatch_list::written(&patterns).ok().expect("there are few records")
 }

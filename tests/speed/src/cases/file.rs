@@ -34,25 +34,23 @@ pub fn sized() -> Vec<Sized> {
 
 fn file(records: usize) -> Case {
     let name = format!("file: {records} records, read and clipped");
-    let case = calls(&name, vec![made(records)], library, rust);
+    let file = rust_abi::written(&patterns(records)).unwrap();
+    let case = calls(&name, vec![(file, RefCell::new(vec![0.0; 8 * records]))], library, rust);
     Case { units: records, ..case }
 }
 
-/// Slanting lines about a face, rising and falling.
-fn made(records: usize) -> File {
+/// The bits of the floats of records: slanting lines about a face, rising and falling.
+fn patterns(records: usize) -> Vec<u32> {
     let mut random = Random::new(1, "file");
-    let mut bytes = b"HSL".to_vec();
-    bytes.extend(1u16.to_le_bytes());
-    bytes.extend((records as u16).to_le_bytes());
+    let mut patterns = Vec::new();
     for _ in 0..records {
         let low = point(&mut random, 0, 50);
         let origin = point(&mut random, -20, 140);
         let (dx, dy) = (between(&mut random, -2, 2), between(&mut random, -2, 2));
-        for x in [low.x, low.y, low.x + 60.0, low.y + 40.0, origin.x, origin.y, dx, dy] {
-            bytes.extend(x.to_le_bytes());
-        }
+        let record = [low.x, low.y, low.x + 60.0, low.y + 40.0, origin.x, origin.y, dx, dy];
+        patterns.extend(record.map(f32::to_bits));
     }
-    (bytes, RefCell::new(vec![0.0; 8 * records]))
+    patterns
 }
 
 fn library((bytes, floats): &File) -> f32 {
@@ -87,9 +85,9 @@ type Saved = (usize, usize, u32);
 
 fn save(records: usize, other: &str, rust: fn(&Save) -> Saved) -> Case {
     let name = format!("save: {records} records, written and read back; {other}");
-    let (file, _) = made(records);
-    let words = file[7..].as_chunks().0.iter().map(|word| u32::from_le_bytes(*word));
-    let lists = (words.collect(), RefCell::new(file), RefCell::new(vec![0; 8 * records]));
+    let patterns = patterns(records);
+    let (file, read) = (vec![0; 7 + 32 * records], vec![0; patterns.len()]);
+    let lists = (patterns, RefCell::new(file), RefCell::new(read));
     Case { units: records, ..calls(&name, vec![lists], saved, rust) }
 }
 
