@@ -1,19 +1,16 @@
 -- The point halfway between q and q + 1 steps of u, by its square: on which side of it a root lies, and that the root
 -- of a number of at most 24 digits times a power of two is never on it. Assumes nothing.
-use mathlib.Core.Path.{_≡_, sym, ap, _∙_}
+use mathlib.Core.Path.{_≡_, sym, _∙_}
 use Prim.Native.Nat.{ℕ, zero, suc, _+_, _*_, _%_, _^_, _≤_, _<_}
-use native.Mathlib.Nat.{mul-comm, mul-assoc, mul-left-comm, mul-mul-mul-comm, mul-pos, pow-succ'}
+use native.Mathlib.Nat.{mul-comm, mul-assoc, mul-left-comm, mul-pos, pow-succ'}
 use native.Mathlib.Nat.{mul-le-mul-right, mul-lt-mul-of-pos-right, le-mul-of-pos-right}
 use native.Mathlib.Omega.{arith}
 use lib.Pow.{pow-add, pow-pos}
-use Rattle.root.proofs.Squares.{square-add, square-double}
+use Rattle.root.proofs.Squares.{square-odd, square-scaled}
 
 -- twice the point is (2 * q + 1) * u
 half-square : (q u : ℕ) → (2 * q + 1) * u * ((2 * q + 1) * u) ≡ (4 * (q * q + q) + 1) * (u * u)
-half-square q u = mul-mul-mul-comm (2 * q + 1) u (2 * q + 1) u ∙ ap (λ (x : ℕ). x * (u * u)) at-one
-  where
-    at-one : (2 * q + 1) * (2 * q + 1) ≡ 4 * (q * q + q) + 1
-    at-one = omega (arith, square-add (2 * q) 1, square-double q)
+half-square q u = square-scaled (2 * q + 1) u (square-odd q)
 
 -- ---- the side, by what the square of q leaves of m
 pub half-below : (m q u : ℕ) → q * q + q < m → (2 * q + 1) * u * ((2 * q + 1) * u) ≤ 4 * (m * (u * u))
@@ -32,7 +29,7 @@ double : (a i : ℕ) → a * 2 ^ suc i ≡ 2 * (a * 2 ^ i)
 double a i = rw (pow-succ' 2 i) (mul-left-comm a 2 (2 ^ i))
 
 -- an odd number times a power of two is no smaller number times a power of two
-odd-apart : (a m i j : ℕ) → a % 2 ≡ 1 → m < a → a * 2 ^ i ≡ m * 2 ^ j → ⊥
+pub odd-apart : (a m i j : ℕ) → a % 2 ≡ 1 → m < a → a * 2 ^ i ≡ m * 2 ^ j → ⊥
 odd-apart a m i zero o l e = omega (arith, le-mul-of-pos-right a (pow-pos i))
 odd-apart a m zero (suc j) o l e = omega (arith, double m j)
 odd-apart a m (suc i) (suc j) o l e = odd-apart a m i j o l (omega (arith, double a i, double m j))

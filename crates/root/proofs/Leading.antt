@@ -12,7 +12,7 @@ use Rattle.root.specs.Root.{wholeRoot, dropped, leading}
 use Rattle.root.proofs.Squares.{root-lt}
 use Rattle.root.proofs.Whole.{IsRoot, whole-root, root-low}
 
-size-above : (w j : ℕ) → 2 ^ j ≤ w → j < size w
+pub size-above : (w j : ℕ) → 2 ^ j ≤ w → j < size w
 size-above w j h = lt-of-not-le (λ (g : size w ≤ j). not-le-of-lt (lt-of-lt-of-le (size-lt w) (pow-mono g)) h)
 
 -- from q * 2 ^ k up to the next such number there are k digits after the leading 24, which are q

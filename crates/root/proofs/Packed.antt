@@ -1,5 +1,5 @@
 -- The bits of a rounded root: k * 2 ^ 23 + q stands for q * 2 ^ k units, where q has 24 digits. Assumes nothing.
-use mathlib.Core.Path.{_≡_, sym, _∙_}
+use mathlib.Core.Path.{_≡_, sym, ap, _∙_}
 use mathlib.Core.Bool.{false}
 use Prim.Native.Nat.{ℕ, _+_, _-_, _*_, _/_, _%_, _^_, _≤_, _<_}
 use native.Mathlib.Nat.{le-refl, le-of-lt, lt-of-lt-of-le}
@@ -12,10 +12,12 @@ use lib.Ieee.Bits.{ofBits-toBits}
 use lib.Ieee.Exact.{odd-sign}
 use lib.Ieee.Fits.{odd-fits}
 use lib.Ieee.Positive.{positive, positive-of-value}
+use Rattle.float.specs.Units.{inUnits}
 use Rattle.root.specs.Root.{nearestRoot}
-use Rattle.root.specs.Steps.{Scaled, Rounds}
-use Rattle.root.proofs.Leading.{digits-after}
+use Rattle.root.specs.Steps.{Scaled, Rounds, Worked}
 use Rattle.float.proofs.Units.{units-of}
+use Rattle.root.proofs.Leading.{digits-after}
+use Rattle.root.proofs.Worked.{worked-scaled}
 use Rattle.root.proofs.Units.{positive-bits}
 
 module _ (q k : ℕ) (low : 2 ^ 23 ≤ q) (high : q < 2 ^ 24) where
@@ -63,14 +65,17 @@ split-even d e h z = go (half e) (omega arith)
         let double : d * 2 ^ 24 ≡ (d + d) * 2 ^ 23 = omega arith in
         rw (s, pow-add 2 24 (k + k), pow-add 2 k k, ← mul-assoc d (2 ^ 24) (2 ^ k * 2 ^ k), double)
 
--- ---- the bits that the code returns
+-- ---- the bits and the count that the code returns
 root-of-scaled : {m q : ℕ} (k : ℕ) → Rounds m q → nearestRoot (m * (2 ^ k * 2 ^ k)) ≡ odd 25 false q k 149
 unfolding nearestRoot
 root-of-scaled k r = rw (r .same k .0, r .same k .1)
 
-pub root-bits : {q : ℕ} (d e n : ℕ) → Scaled (d * 2 ^ e) d e → Split d e n → Rounds (n * 2 ^ 23) q
-    → (half e * 2 ^ 23 + q < 0x7f80_0000) × (ofBits binary32 (half e * 2 ^ 23 + q) ≡ nearestRoot (d * 2 ^ e))
-root-bits {q} d e n s split r = (room e q (s .most) (r .high), value)
+pub root-bits : {q w : ℕ} (d e n : ℕ) → Scaled (d * 2 ^ e) d e → Split d e n → Rounds (n * 2 ^ 23) q → Worked (n * 2 ^ 23) q w
+    → (half e * 2 ^ 23 + q < 0x7f80_0000)
+    × (ofBits binary32 (half e * 2 ^ 23 + q) ≡ nearestRoot (d * 2 ^ e))
+    × Worked (d * 2 ^ e) (inUnits (ofBits binary32 (half e * 2 ^ 23 + q))) w
+root-bits {q} {w} d e n s split r digits =
+    (room e q (s .most) (r .high), float ∙ sym (rw split (root-of-scaled (half e) r)), rw (split, units) (worked-scaled (half e) digits))
   where
     room : (e q : ℕ) → e ≤ 402 → q < 2 ^ 24 → half e * 2 ^ 23 + q < 0x7f80_0000
     room e q h k = omega arith
@@ -78,7 +83,8 @@ root-bits {q} d e n s split r = (room e q (s .most) (r .high), value)
     few : (e : ℕ) → e ≤ 402 → half e ≤ 250
     few e h = omega arith
 
-    value : ofBits binary32 (half e * 2 ^ 23 + q) ≡ nearestRoot (d * 2 ^ e)
-    value =
-        packed q (half e) (r .low) (r .high) (few e (s .most))
-        ∙ sym (rw split (root-of-scaled (half e) r))
+    float : ofBits binary32 (half e * 2 ^ 23 + q) ≡ odd 25 false q (half e) 149
+    float = packed q (half e) (r .low) (r .high) (few e (s .most))
+
+    units : inUnits (ofBits binary32 (half e * 2 ^ 23 + q)) ≡ q * 2 ^ half e
+    units = ap inUnits float ∙ units-of (odd 25 false q (half e) 149) false (q * 2 ^ half e) (odd-sign 25 false q (half e) 149)

@@ -9,8 +9,7 @@ use lib.Dec.{leb}
 use lib.Pow.{pow-pos}
 use Rattle.root.specs.Root.{rounded}
 use Rattle.root.specs.Steps.{IsWholeRoot, Rounds}
-use Rattle.root.proofs.Squares.{root-lt}
-use Rattle.root.proofs.Whole.{IsRoot, root-low}
+use Rattle.root.proofs.Whole.{IsRoot, is-root, root-low, root-high}
 use Rattle.root.proofs.Leading.{dropped-is, leading-is}
 use Rattle.root.proofs.Halfway.{half-below, half-above}
 
@@ -32,14 +31,14 @@ module _ {m q : ℕ} (k : ℕ) (r : IsRoot m q) (low : 2 ^ 23 ≤ q) (high : q <
 
 -- ---- the choice that the code makes
 module _ {q rest : ℕ} (n : ℕ) (lo : 2 ^ 23 ≤ n) (hi : n ≤ 2 ^ 25 - 2) (w : IsWholeRoot (n * 2 ^ 23) q rest) where
-  is-root : IsRoot (n * 2 ^ 23) q
-  is-root = record { low = omega arith; next = w .next }
+  root : IsRoot (n * 2 ^ 23) q
+  root = is-root w
 
   low : 2 ^ 23 ≤ q
-  low = root-low (omega arith) is-root
+  low = root-low (omega arith) root
 
   high : q < 2 ^ 24
-  high = root-lt q (2 ^ 24) (omega arith)
+  high = root-high (omega arith) root
 
   -- what rounds up is not the last number of 24 digits
   not-last : q < rest → q + 1 < 2 ^ 24
@@ -52,12 +51,12 @@ module _ {q rest : ℕ} (n : ℕ) (lo : 2 ^ 23 ≤ n) (hi : n ≤ 2 ^ 25 - 2) (w
   up h = record {
     low = omega (arith, low);
     high = not-last h;
-    same = λ k. (rounded-up k is-root low high (omega arith), dropped-is k is-root low high);
+    same = λ k. (rounded-up k root low high (omega arith), dropped-is k root low high);
   }
 
   pub down : rest ≤ q → Rounds (n * 2 ^ 23) q
   down h = record {
     low = low;
     high = high;
-    same = λ k. (rounded-down k is-root low high (omega arith), dropped-is k is-root low high);
+    same = λ k. (rounded-down k root low high (omega arith), dropped-is k root low high);
   }

@@ -2,6 +2,7 @@
 use mathlib.Core.Path.{_≡_}
 use Prim.Native.Nat.{ℕ, _+_, _*_, _^_, _≤_, _<_}
 use Rattle.root.specs.Root.{rounded, dropped}
+use Rattle.root.specs.Digits.{HasDigits}
 
 -- n as a significand of 24 binary digits times a power of two, in the range of the radicands of f32s
 pub record Scaled (n significand exponent : ℕ) : Type 0 where
@@ -21,3 +22,8 @@ pub record Rounds (m r : ℕ) : Type 0 where
   pub low : 2 ^ 23 ≤ r
   pub high : r < 2 ^ 24
   pub same : (k : ℕ) → (rounded (m * (2 ^ k * 2 ^ k)) ≡ r) × (dropped (m * (2 ^ k * 2 ^ k)) ≡ k)
+
+-- d binary digits of √n were worked, where r is √n rounded: up to the last 1 of r if the square of r is n, and otherwise 24
+pub record Worked (n r d : ℕ) : Type 0 where
+  pub exact : r * r ≡ n → HasDigits r d
+  pub inexact : (r * r ≡ n → ⊥) → d ≡ 24
