@@ -124,7 +124,7 @@ static inline const char *bgz_refusal_text(uint32_t status) {
     }
 }
 
-/* ---- shapes */
+/* ---- shapes, and other results of several numbers */
 
 /* A point or a vector. */
 typedef struct bgz_vec2 {
@@ -168,6 +168,12 @@ typedef struct bgz_mat3 {
     float m12;  /* Row 1, column 2. */
     float m22;  /* Row 2, column 2. */
 } bgz_mat3;
+
+/* A square root, and how many of its binary digits were worked. */
+typedef struct bgz_sqrt_digits {
+    float root;       /* The root rounded to the nearest float; a NaN where there is none. */
+    uint32_t digits;  /* Up to the last 1 of an exact root, 24 of any other; 0 where none is worked. */
+} bgz_sqrt_digits;
 
 /* A point of an edge, and its ratio along the edge. */
 typedef struct bgz_on_edge {
@@ -297,6 +303,14 @@ size_t bgz_f32_to_usize(float x);
  * Example: 2.25 gives 1.5.
  */
 float bgz_f32_sqrt(float x);
+
+/*
+ * The square root as bgz_f32_sqrt gives it, and how many of its binary digits were worked, from the leading 1: up to
+ * the last 1 of an exact root, at most 12 of them, and 24 of any other. 0 for a NaN, a zero, an infinity and an x below
+ * 0.
+ * Example: 6.25 gives (2.5, 3).
+ */
+bgz_sqrt_digits bgz_f32_sqrt_digits(float x);
 
 /* ---- range: ranges of numbers. */
 

@@ -2,6 +2,8 @@
 //!
 //! Written by tests/generate from the exported functions bgz_f32_..; not to be edited.
 
+use crate::shapes::SqrtDigits;
+
 unsafe extern "C" {
     /// The absolute value: the sign is dropped, that of -0 too.
     ///
@@ -126,4 +128,18 @@ unsafe extern "C" {
     /// ```
     #[link_name = "bgz_f32_sqrt"]
     pub safe fn sqrt(x: f32) -> f32;
+
+    /// The square root as [`f32::sqrt`](crate::f32::sqrt) gives it, and how many of its binary
+    /// digits were worked, from the leading 1: up to the last 1 of an exact root, at most 12 of
+    /// them, and 24 of any other. 0 for a NaN, a zero, an infinity and an `x` below 0.
+    ///
+    /// # Example
+    ///
+    /// ```
+    /// use bagnoszyk::{SqrtDigits, f32};
+    ///
+    /// assert_eq!(f32::sqrt_digits(6.25), SqrtDigits { root: 2.5, digits: 3 });
+    /// ```
+    #[link_name = "bgz_f32_sqrt_digits"]
+    pub safe fn sqrt_digits(x: f32) -> SqrtDigits;
 }

@@ -1,4 +1,5 @@
-//! Shapes as the library takes and returns them, each also from and to an array of its floats in order.
+//! Shapes as the library takes and returns them, and other results of several numbers; those of floats alone also from and to an
+//! array of their floats in order.
 //!
 //! Written by tests/generate from crates/types/src/shape.rt and the structs that routines return; not to be edited.
 
@@ -146,6 +147,16 @@ impl From<Mat3> for [f32; 9] {
     fn from(s: Mat3) -> Self {
         [s.m00, s.m10, s.m20, s.m01, s.m11, s.m21, s.m02, s.m12, s.m22]
     }
+}
+
+/// A square root, and how many of its binary digits were worked.
+#[derive(Clone, Copy, Debug, PartialEq)]
+#[repr(C)]
+pub struct SqrtDigits {
+    /// The root rounded to the nearest float; a NaN where there is none.
+    pub root: f32,
+    /// Up to the last 1 of an exact root, 24 of any other; 0 where none is worked.
+    pub digits: u32,
 }
 
 /// A point of an edge, and its ratio along the edge.

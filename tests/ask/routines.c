@@ -73,6 +73,14 @@ static void f32_sqrt(const struct arguments *in, struct answer *out) {
     out->values[0].f = r;
 }
 
+static void f32_sqrt_digits(const struct arguments *in, struct answer *out) {
+    const float *f = in->floats;
+    bgz_sqrt_digits r = bgz_f32_sqrt_digits(f[0]);
+    out->status = BGZ_ANSWERED;
+    out->values[0].f = r.root;
+    out->values[1].u = r.digits;
+}
+
 static void range_distance_to_range(const struct arguments *in, struct answer *out) {
     const float *f = in->floats;
     bgz_float_answer r = bgz_range_distance_to_range((bgz_range){f[0], f[1]}, (bgz_range){f[2], f[3]});
@@ -561,6 +569,8 @@ const struct routine routines[] = {
     {"f32.to_usize", CALL(f32_to_usize), "f", "", "u",
      "x", 0},
     {"f32.sqrt", CALL(f32_sqrt), "f", "", "f",
+     "x", 0},
+    {"f32.sqrt_digits", CALL(f32_sqrt_digits), "f", "", "fu",
      "x", 0},
     {"range.distance_to_range", CALL(range_distance_to_range), "ffff", "", "f",
      "a.low a.high b.low b.high", 0},

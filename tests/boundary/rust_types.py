@@ -41,7 +41,10 @@ def fitted(line):
 
 
 def conversions(s, model):
-    """Between a shape and an array of its floats, in order."""
+    """Between a shape and an array of its floats, in order; none where it has other numbers too."""
+    if any(t != "f32" for _, t in model.scalars(s.name)):
+        return
+    yield ""
     paths = [path.lstrip(".") for path, _ in model.scalars(s.name)]
     names = [path.replace(".", "_") for path in paths]
     array = f"[f32; {len(paths)}]"
@@ -58,7 +61,8 @@ def conversions(s, model):
 
 
 def shapes_file(model):
-    yield "//! Shapes as the library takes and returns them, each also from and to an array of its floats in order."
+    yield "//! Shapes as the library takes and returns them, and other results of several numbers; those of floats alone also from and to an"
+    yield "//! array of their floats in order."
     yield "//!"
     yield from origin("crates/types/src/shape.rt and the structs that routines return")
     for s in model.structs.values():
@@ -66,7 +70,6 @@ def shapes_file(model):
             yield ""
             derived = "#[derive(Clone, Copy, Debug, PartialEq)]"
             yield from struct(s.name, s.fields, [*about(s, model), derived, "#[repr(C)]"])
-            yield ""
             yield from conversions(s, model)
 
 

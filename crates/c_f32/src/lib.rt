@@ -1,4 +1,5 @@
 // Float helpers.
+use root::SqrtDigits;
 ghost use mathlib.Core.Path.{_≡_};
 ghost use lib.Ieee.{toSigned, toUnsigned};
 ghost use Rattle.float.specs.Values.{absOf, minOf, maxOf, clampOf};
@@ -6,6 +7,7 @@ ghost use Rattle.rounding.specs.Values.{floorOf, ceilOf};
 ghost use Rattle.rounding.specs.Integral.{TowardNegative, TowardPositive};
 ghost use Rattle.rounding.specs.Promise.{RoundsToIntegral};
 ghost use Rattle.root.specs.Promise.{SquareRoot};
+ghost use Rattle.root.specs.Digits.{DigitsWorked};
 
 // The absolute value: the sign is dropped, that of -0 too.
 // Example: -1.5 gives 1.5.
@@ -95,4 +97,14 @@ pub extern "C" fn bgz_f32_sqrt(x: f32) -> f32
     ensures { λ r. ⌜ SquareRoot x r ⌝ }
 {
     root::sqrt(x)
+}
+
+// The square root as `f32::sqrt` gives it, and how many of its binary digits were worked, from the leading 1: up to the last 1 of an exact
+// root, at most 12 of them, and 24 of any other. 0 for a NaN, a zero, an infinity and an `x` below 0.
+// Example: 6.25 gives (2.5, 3).
+#[no_mangle]
+pub extern "C" fn bgz_f32_sqrt_digits(x: f32) -> SqrtDigits
+    ensures { λ r. ⌜ SquareRoot x (r .root) × DigitsWorked x (r .root) (r .digits) ⌝ }
+{
+    root::sqrt_digits(x)
 }

@@ -4,6 +4,7 @@
 
 use crate::answer::same_number;
 use crate::ask::Args;
+use crate::judge;
 use crate::options::Options;
 use crate::pairs::named;
 use bagnoszyk::f32 as ours;
@@ -11,7 +12,7 @@ use num_traits::float::Float;
 use std::thread;
 use std::time::Instant;
 
-/// A routine of one float, and the search for an input on which the library differs from the Rust.
+/// A routine of one float, and the search for an input on which the library differs from the judge.
 type Search = (&'static str, fn() -> Option<f32>);
 
 const SEARCHES: &[Search] = &[
@@ -19,6 +20,7 @@ const SEARCHES: &[Search] = &[
     ("f32.floor", || difference(|x| same_number(ours::floor(x), Float::floor(x)))),
     ("f32.ceil", || difference(|x| same_number(ours::ceil(x), Float::ceil(x)))),
     ("f32.sqrt", || difference(|x| same_number(ours::sqrt(x), Float::sqrt(x)))),
+    ("f32.sqrt_digits", || difference(same_root)),
     ("f32.to_i32", || difference(|x| ours::to_i32(x) == x as i32)),
     ("f32.to_u32", || difference(|x| ours::to_u32(x) == x as u32)),
     ("f32.to_usize", || difference(|x| ours::to_usize(x) == x as usize)),
@@ -33,14 +35,19 @@ pub fn run(options: &Options) -> Result<(), String> {
     for (name, search) in searches {
         let start = Instant::now();
         if let Some(x) = search() {
-            let args = Args { floats: vec![x], ..Args::default() };
-            let told = named(name)?.compare(&args);
+            let told = named(name)?.compare(&Args::of(x));
             return Err(told.expect_err("the tables call the same functions"));
         }
         let seconds = start.elapsed().as_secs_f64();
         println!("{name} {} inputs, no difference, {seconds:.1} s", 1u64 << 32);
     }
     Ok(())
+}
+
+/// The library's root and digits beside the judge's.
+fn same_root(x: f32) -> bool {
+    let (ours, (root, digits)) = (ours::sqrt_digits(x), judge::sqrt_digits(x));
+    same_number(ours.root, root) && ours.digits == digits
 }
 
 /// An input on which the answers are not alike. The inputs are cut into 256 parts that the threads

@@ -15,6 +15,11 @@ pub struct Args {
 }
 
 impl Args {
+    /// A float alone.
+    pub fn of(x: f32) -> Self {
+        Args { floats: vec![x], ..Args::default() }
+    }
+
     /// As the table takes them. They are only read.
     fn input(&self) -> c::Input {
         let mut wholes = [0; MOST_WHOLES];

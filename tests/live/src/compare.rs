@@ -1,4 +1,5 @@
-//! Random inputs for each routine, the places of refusals, hatch lists written and read, reports on them, and the tiles by brute force.
+//! Random inputs for each routine, the places of refusals, every exact root, hatch lists written and read, reports on them, and the tiles by
+//! brute force.
 
 use crate::cover;
 use crate::figures;
@@ -8,6 +9,7 @@ use crate::options::Options;
 use crate::pairs::pairs;
 use crate::places;
 use crate::saved;
+use crate::squares;
 
 pub fn run(options: &Options) -> Result<(), String> {
     println!(
@@ -27,6 +29,7 @@ pub fn run(options: &Options) -> Result<(), String> {
     println!("{} routines, {total} inputs, no difference, seed {}", pairs.len(), options.seed);
     if options.only.is_empty() {
         places::run()?;
+        squares::run()?;
         saved::run(options.seed, count)?;
         hatch::run(options.seed, count)?;
         cover::run(options)?;

@@ -10,9 +10,11 @@ mod mat3;
 mod obb2;
 mod panics;
 mod range;
+mod root;
 mod vec2;
 
 pub use panics::silence as silence_panics;
+pub use root::sqrt_digits;
 
 use crate::answer::Answer;
 use crate::ask::Args;

@@ -14,6 +14,7 @@ mod pairs;
 mod places;
 mod random;
 mod saved;
+mod squares;
 mod tally;
 mod vectors;
 
@@ -22,7 +23,7 @@ use std::env;
 use std::process::ExitCode;
 
 const USAGE: &str = "usage: live MODE [--seed S] [--count N] [--only PREFIX]
-  compare  random inputs for each routine, and hatch lists: the library against the Rust
+  compare  random inputs for each routine, hatch lists, and every exact root: the library against the Rust
   all      all 4294967296 inputs of each routine of one float: the library against the Rust
   cover    the tiles listed against their definition, by brute force on small sheets
   vectors  print requests with the Rust's answers

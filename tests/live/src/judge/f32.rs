@@ -1,6 +1,6 @@
-//! Rust's own functions on f32, called as the Rust calls them, through num-traits.
+//! Rust's own functions on f32, called as the Rust calls them, through num-traits. The Rust does not count the digits of a root: root.rs does.
 
-use super::{Row, row};
+use super::{Row, row, sqrt_digits};
 use crate::answer::same_number;
 use crate::inputs::Kind::Float as F;
 use num_traits::float::Float;
@@ -13,6 +13,7 @@ pub const ROWS: &[Row] = &[
     row("f32.floor", &[F], |a| Float::floor(a.f(0)).into()),
     row("f32.ceil", &[F], |a| Float::ceil(a.f(0)).into()),
     row("f32.sqrt", &[F], |a| Float::sqrt(a.f(0)).into()),
+    row("f32.sqrt_digits", &[F], |a| sqrt_digits(a.f(0)).into()),
     row("f32.to_i32", &[F], |a| (a.f(0) as i32).into()),
     row("f32.to_u32", &[F], |a| (a.f(0) as u32).into()),
     row("f32.to_usize", &[F], |a| (a.f(0) as u64).into()),

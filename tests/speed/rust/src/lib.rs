@@ -3,7 +3,7 @@
 //! None of these may be inlined: a call into the library is not.
 
 use bagnoszyk::answers::{ANSWERED, CountAnswer, IntervalAnswer, NONE, PointAnswer, ReadAnswer};
-use bagnoszyk::shapes::{Aabb2, Obb2, OnEdge, Vec2};
+use bagnoszyk::shapes::{Aabb2, Obb2, OnEdge, SqrtDigits, Vec2};
 use del_geo_core::obb2::OBB2Trait;
 use del_geo_core::{aabb, aabb2, edge2};
 
@@ -107,6 +107,23 @@ pub extern "C" fn nearest_to_point(s: Vec2, e: Vec2, p: Vec2) -> OnEdge {
 #[inline(never)]
 pub extern "C" fn sqrt(x: f32) -> f32 {
     x.sqrt()
+}
+
+/// The Rust does not count digits: a plain count by the root's own bits, where its square, exact in f64, is the number.
+#[inline(never)]
+pub extern "C" fn sqrt_digits(x: f32) -> SqrtDigits {
+    let root = x.sqrt();
+    let exact = f64::from(root) * f64::from(root) == f64::from(x);
+    // The root of a number above zero is never subnormal: it has its leading 1.
+    let zeros = (root.to_bits() | 0x0080_0000).trailing_zeros();
+    let digits = if !(x > 0.0 && x.is_finite()) {
+        0
+    } else if exact {
+        24 - zeros
+    } else {
+        24
+    };
+    SqrtDigits { root, digits }
 }
 
 /// The Rust has no hatch list: the reader and the writer are ours.
