@@ -23,8 +23,8 @@ use std::env;
 use std::process::ExitCode;
 
 const USAGE: &str = "usage: live MODE [--seed S] [--count N] [--only PREFIX]
-  compare  random inputs for each routine, hatch lists, and every exact root: the library against the Rust
-  all      all 4294967296 inputs of each routine of one float: the library against the Rust
+  compare  random inputs for each routine, hatch lists, and every exact root: the library against the judge
+  all      all 4294967296 inputs of each routine of one float: the library against the judge
   cover    the tiles listed against their definition, by brute force on small sheets
   vectors  print requests with the Rust's answers
   tally    count the kinds of the Rust's answers, a check on the inputs";
