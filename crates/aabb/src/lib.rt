@@ -5,7 +5,7 @@ use types::Interval;
 use types::Vec2;
 ghost use mathlib.Core.Path.{_≡_};
 ghost use Rattle.aabb.specs.Clip.{slabXOf, slabYOf, intersectionsAgainstLineOf, intersectionsAgainstRayOf};
-ghost use Rattle.aabb.specs.Inside.{withinOf, isIncludePointOf, centerOf};
+ghost use Rattle.aabb.specs.Inside.{isIncludePointOf, centerOf};
 
 // The box and the line, seen in one dimension.
 pub fn slab_x(b: Aabb2, origin: Vec2, direction: Vec2) -> Slab
@@ -45,18 +45,11 @@ pub fn intersections_against_ray(b: Aabb2, origin: Vec2, direction: Vec2) -> Int
     slab::ahead(intersections_against_line(b, origin, direction))
 }
 
-// One dimension of the test below.
-fn within(low: f32, high: f32, at: f32) -> bool
-    ensures { λ r. ⌜ r ≡ withinOf low high at ⌝ }
-{
-    (at >= low) & (at <= high)
-}
-
 // Whether p is in the box, edges included. A NaN is outside.
 pub fn is_include_point(b: Aabb2, p: Vec2) -> bool
     ensures { λ r. ⌜ r ≡ isIncludePointOf b p ⌝ }
 {
-    within(b.min_x, b.max_x, p.x) & within(b.min_y, b.max_y, p.y)
+    slab::within(b.min_x, b.max_x, p.x) & slab::within(b.min_y, b.max_y, p.y)
 }
 
 pub fn center(b: Aabb2) -> Vec2

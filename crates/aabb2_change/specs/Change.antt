@@ -13,7 +13,8 @@ use Rattle.float.specs.Rounded.{_⊕_, _⊖_, _⊗_, _⊘_, +0, half, one}
 use Rattle.float.specs.Values.{maxOf}
 use Rattle.mat3.specs.Values as mat3
 use Rattle.aabb2_from.specs.From.{fromTwoAabbsOf}
-use Rattle.aabb.specs.Inside.{middle, centerOf}
+use Rattle.slab.specs.Inside.{middle}
+use Rattle.aabb.specs.Inside.{centerOf}
 
 abbrev pub maxEdgeSizeOf : Aabb2 → Float
 maxEdgeSizeOf b = maxOf (b .«max_x» ⊖ b .«min_x») (b .«max_y» ⊖ b .«min_y»)

@@ -8,7 +8,7 @@ use Rattle.types.specs.declared.answer.Nearest.the-variants.{Some, Refused}
 use Rattle.float.specs.Rounded.{_⊕_, _⊖_, _⊗_, +0, half}
 use Rattle.float.specs.Values.{absOf, minOf, maxOf, clampOf}
 use Rattle.vec2.specs.Values.{lengthOf}
-use Rattle.aabb.specs.Inside.{middle}
+use Rattle.slab.specs.Inside.{middle}
 
 -- how far a coordinate lies past the nearer end of low to high; negative inside
 abbrev pub pastOf : Float → Float → Float → Float

@@ -58,7 +58,7 @@ numbers-decide xs ys a b m n = (λ h x y p q. h x y (inr p) (inr q), decided)
 
 -- ---- boxes
 
-either : (a b : Bool) → (a || b) ≡ true → (a ≡ true) ⊎ (b ≡ true)
+pub either : (a b : Bool) → (a || b) ≡ true → (a ≡ true) ⊎ (b ≡ true)
 either true b h = inl refl
 either false b h = inr h
 
@@ -72,7 +72,7 @@ not-false true h = refl
 not-false false h = absurd (true≢false h)
 
 module _ {A : Type 0} (f : A → Bool) where
-  some-is : (xs : List A) → some f xs ≡ true → (x : A) × List·Memᴰ x xs × (f x ≡ true)
+  pub some-is : (xs : List A) → some f xs ≡ true → (x : A) × List·Memᴰ x xs × (f x ≡ true)
   unfolding some
   some-is [] h = absurd (true≢false (sym h))
   some-is (x ∷ xs) h = elim (either (f x) (some f xs) h) [
@@ -80,7 +80,7 @@ module _ {A : Type 0} (f : A → Bool) where
     | inr k ↦ let r = some-is xs k in (r .0, List·Memᴰ·tail (r .1), r .2)
   ]
 
-  is-some : (xs : List A) (x : A) → List·Memᴰ x xs → f x ≡ true → some f xs ≡ true
+  pub is-some : (xs : List A) (x : A) → List·Memᴰ x xs → f x ≡ true → some f xs ≡ true
   unfolding some
   is-some [] x m h = absurd (List·Memᴰ·not-nil m)
   is-some (y ∷ xs) x m h = elim (List·Memᴰ·cases-cons m) [

@@ -4,8 +4,10 @@
 use mathlib.Core.Bool.{Bool, true, false, not, cond, _||_}
 use mathlib.Core.List.{List, [], _∷_, map}
 use Prim.Native.Nat.{suc}
-use lib.Ieee.{Float, lt}
+use lib.Ieee.{Float, lt, isNan}
 use Rattle.types.specs.declared.shape.Range.{Range}
+use Rattle.types.specs.declared.answer.Verdict.{Verdict}
+use Rattle.types.specs.declared.answer.Verdict.the-variants.{Some, Refused}
 use Rattle.axes.specs.declared.Place.{Place}
 use Rattle.axes.specs.declared.Place.the-variants.{None, At}
 use Rattle.float.specs.Values.{lesserOf, greaterOf}
@@ -36,6 +38,10 @@ abbrev pub next : Place → Place
 next None = None
 next (At j) = At (suc j)
 
+unfoldable pub isYesOf : Verdict → Bool
+isYesOf (Some b) = b
+isYesOf (Refused n) = false
+
 module _ {A : Type 0} (f : A → Bool) where
   -- f holds of some element
   unfoldable pub some : List A → Bool
@@ -59,3 +65,15 @@ module _ {P : Type 0} (dot : P → P → Float) where
   -- no exactly if some axis separates the corners
   unfoldable pub meets : List P → List P → List P → Bool
   meets ps qs axes = not (some (separates ps qs) axes)
+
+  -- a projection on the axis is NaN
+  unfoldable pub undefinedOn : List P → List P → P → Bool
+  undefinedOn ps qs axis = some isNan (projections ps axis) || some isNan (projections qs axis)
+
+  -- the same search where a NaN is refused: the first axis on which a projection is NaN, refusal 16, or that separates the corners, no
+  unfoldable pub verdictOf : List P → List P → List P → Verdict
+  verdictOf ps qs [] = Some true
+  verdictOf ps qs (axis ∷ axes) =
+      cond (undefinedOn ps qs axis)
+      (Refused 16)
+      (cond (separates ps qs axis) (Some false) (verdictOf ps qs axes))

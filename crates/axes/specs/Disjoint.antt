@@ -1,5 +1,6 @@
 -- The separating axes of Gottschalk, Lin and Manocha, said with no fold. Two boxes are disjoint if on some axis the intervals of their
--- projections are; in the plane the axes are those at a right angle to the boxes' edges. The projections are rounded, so a box's
+-- projections are; in the plane the axes are those at a right angle to the boxes' edges, in space those along the edges and along the cross
+-- products of an edge of one with an edge of the other. The projections are rounded, so a box's
 -- interval is that of the projections that are numbers. Definitions only.
 use mathlib.Core.Path.{_≡_}
 use mathlib.Core.Logic.{_⊎_, _↔_}

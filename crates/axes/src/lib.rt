@@ -31,12 +31,9 @@ pub fn widened(r: Range, x: f32) -> Range
     }
 }
 
-// Whether one range's maximum is strictly below the other's minimum.
+// Whether one range's maximum is strictly below the other's minimum. Both are tested, with no jump between.
 pub fn apart(a: Range, b: Range) -> bool
     ensures { λ r. ⌜ r ≡ apartOf a b ⌝ }
 {
-    if a.high < b.low {
-        return true;
-    }
-    a.low > b.high
+    (a.high < b.low) | (a.low > b.high)
 }

@@ -14,7 +14,7 @@ use lib.Ieee.Fits.{odd-fits}
 use lib.Ieee.Positive.{positive, positive-of-value}
 use Rattle.float.specs.Units.{inUnits}
 use Rattle.root.specs.Root.{nearestRoot}
-use Rattle.root.specs.Steps.{Scaled, Rounds, Worked}
+use Rattle.root.specs.Steps.{Rounds, Worked}
 use Rattle.float.proofs.Units.{units-of}
 use Rattle.root.proofs.Leading.{digits-after}
 use Rattle.root.proofs.Worked.{worked-scaled}
@@ -45,7 +45,7 @@ module _ (q k : ℕ) (low : 2 ^ 23 ≤ q) (high : q < 2 ^ 24) where
       rw (← packed-bits) (ofBits-toBits binary32 (odd 25 false q k 149) held)
 
 -- ---- d * 2 ^ e as n * 2 ^ 23 times a power of four: n is d where e is odd, and twice d where e is even
-abbrev half : ℕ → ℕ
+abbrev pub half : ℕ → ℕ
 half e = (e - 23) / 2
 
 abbrev pub Split : ℕ → ℕ → ℕ → Type 0
@@ -65,26 +65,30 @@ split-even d e h z = go (half e) (omega arith)
         let double : d * 2 ^ 24 ≡ (d + d) * 2 ^ 23 = omega arith in
         rw (s, pow-add 2 24 (k + k), pow-add 2 k k, ← mul-assoc d (2 ^ 24) (2 ^ k * 2 ^ k), double)
 
--- ---- the bits and the count that the code returns
+-- ---- the float of the bits
 root-of-scaled : {m q : ℕ} (k : ℕ) → Rounds m q → nearestRoot (m * (2 ^ k * 2 ^ k)) ≡ odd 25 false q k 149
 unfolding nearestRoot
 root-of-scaled k r = rw (r .same k .0, r .same k .1)
 
-pub root-bits : {q w : ℕ} (d e n : ℕ) → Scaled (d * 2 ^ e) d e → Split d e n → Rounds (n * 2 ^ 23) q → Worked (n * 2 ^ 23) q w
-    → (half e * 2 ^ 23 + q < 0x7f80_0000)
-    × (ofBits binary32 (half e * 2 ^ 23 + q) ≡ nearestRoot (d * 2 ^ e))
-    × Worked (d * 2 ^ e) (inUnits (ofBits binary32 (half e * 2 ^ 23 + q))) w
-root-bits {q} {w} d e n s split r digits =
-    (room e q (s .most) (r .high), float ∙ sym (rw split (root-of-scaled (half e) r)), rw (split, units) (worked-scaled (half e) digits))
-  where
-    room : (e q : ℕ) → e ≤ 402 → q < 2 ^ 24 → half e * 2 ^ 23 + q < 0x7f80_0000
-    room e q h k = omega arith
+module _ {q : ℕ} (d e n : ℕ) (most : e ≤ 402) (split : Split d e n) (r : Rounds (n * 2 ^ 23) q) where
+  float : ofBits binary32 (half e * 2 ^ 23 + q) ≡ odd 25 false q (half e) 149
+  float = packed q (half e) (r .low) (r .high) (few e most)
+    where
+      few : (e : ℕ) → e ≤ 402 → half e ≤ 250
+      few e h = omega arith
 
-    few : (e : ℕ) → e ≤ 402 → half e ≤ 250
-    few e h = omega arith
+  pub root-float : (half e * 2 ^ 23 + q < 0x7f80_0000) × (ofBits binary32 (half e * 2 ^ 23 + q) ≡ nearestRoot (d * 2 ^ e))
+  root-float = (room e q most (r .high), float ∙ sym (rw split (root-of-scaled (half e) r)))
+    where
+      room : (e q : ℕ) → e ≤ 402 → q < 2 ^ 24 → half e * 2 ^ 23 + q < 0x7f80_0000
+      room e q h k = omega arith
 
-    float : ofBits binary32 (half e * 2 ^ 23 + q) ≡ odd 25 false q (half e) 149
-    float = packed q (half e) (r .low) (r .high) (few e (s .most))
-
-    units : inUnits (ofBits binary32 (half e * 2 ^ 23 + q)) ≡ q * 2 ^ half e
-    units = ap inUnits float ∙ units-of (odd 25 false q (half e) 149) false (q * 2 ^ half e) (odd-sign 25 false q (half e) 149)
+  -- ---- and the count that the code returns with it
+  pub root-bits : {w : ℕ} → Worked (n * 2 ^ 23) q w
+      → (half e * 2 ^ 23 + q < 0x7f80_0000)
+      × (ofBits binary32 (half e * 2 ^ 23 + q) ≡ nearestRoot (d * 2 ^ e))
+      × Worked (d * 2 ^ e) (inUnits (ofBits binary32 (half e * 2 ^ 23 + q))) w
+  root-bits digits = (root-float .0, root-float .1, rw (split, units) (worked-scaled (half e) digits))
+    where
+      units : inUnits (ofBits binary32 (half e * 2 ^ 23 + q)) ≡ q * 2 ^ half e
+      units = ap inUnits float ∙ units-of (odd 25 false q (half e) 149) false (q * 2 ^ half e) (odd-sign 25 false q (half e) 149)

@@ -1,7 +1,8 @@
-// The clip of a line against an upright box, dimension by dimension: a slab is what one dimension has of the box and of the line.
+// An upright box, dimension by dimension: a slab is what one dimension has of the box and of a line that is clipped against it.
 use types::Interval;
 ghost use mathlib.Core.Path.{_≡_};
 ghost use Rattle.slab.specs.Clip.{allFiniteOf, narrowedOf, orderedOf, aheadOf};
+ghost use Rattle.slab.specs.Inside.{withinOf};
 
 // One dimension: the box from low to high, and the line's origin and direction.
 pub struct Slab {
@@ -77,4 +78,11 @@ pub fn ahead(i: Interval) -> Interval
             }
         }
     }
+}
+
+// Whether a point's coordinate is in one dimension of a box, ends included. A NaN is outside.
+pub fn within(low: f32, high: f32, at: f32) -> bool
+    ensures { λ r. ⌜ r ≡ withinOf low high at ⌝ }
+{
+    (at >= low) & (at <= high)
 }

@@ -1,6 +1,8 @@
 // Answers that may be missing or refused. A refusal carries its number, and its place where it tells one.
 use crate::shape::Aabb2;
+use crate::shape::Aabb3;
 use crate::shape::Vec2;
+use crate::shape::Vec3;
 
 // The stretch of a line or a ray inside a box, by the parameter at which it enters and leaves.
 pub enum Interval {
@@ -33,6 +35,23 @@ pub enum Nearest {
 
 pub enum Boxed {
     Some(Aabb2),
+    Refused(u32),
+}
+
+pub enum Boxed3 {
+    Some(Aabb3),
+    Refused(u32),
+}
+
+// A corner of a box of space, by its number.
+pub enum Corner {
+    Some(Vec3),
+    Refused(u32),
+}
+
+// Yes or no.
+pub enum Verdict {
+    Some(bool),
     Refused(u32),
 }
 

@@ -30,3 +30,7 @@ pub const LENGTH: u32 = 13;
 pub const LINES: u32 = 14;
 // A coordinate of a stroke is not finite.
 pub const NOT_FINITE: u32 = 15;
+// A corner's projection is NaN on an axis that is reached, whether it separates the boxes or not.
+pub const NAN_PROJECTION: u32 = 16;
+// The number of a corner is above 7.
+pub const CORNER: u32 = 17;

@@ -9,6 +9,17 @@ pub struct Vec2 {
     pub y: f32,
 }
 
+// A point or a vector of space.
+#[repr(C)]
+pub struct Vec3 {
+    // Along the first axis.
+    pub x: f32,
+    // Along the second axis.
+    pub y: f32,
+    // Along the third axis.
+    pub z: f32,
+}
+
 // The numbers from low to high.
 #[repr(C)]
 pub struct Range {
@@ -31,6 +42,23 @@ pub struct Aabb2 {
     pub max_y: f32,
 }
 
+// An upright box of space: an axis-aligned bounding box by its low and its high corner.
+#[repr(C)]
+pub struct Aabb3 {
+    // x of the low corner.
+    pub min_x: f32,
+    // y of the low corner.
+    pub min_y: f32,
+    // z of the low corner.
+    pub min_z: f32,
+    // x of the high corner.
+    pub max_x: f32,
+    // y of the high corner.
+    pub max_y: f32,
+    // z of the high corner.
+    pub max_z: f32,
+}
+
 // A turned box: an oriented bounding box by its centre and two half edges, u and v.
 #[repr(C)]
 pub struct Obb2 {
@@ -46,6 +74,35 @@ pub struct Obb2 {
     pub vx: f32,
     // y of the half edge v.
     pub vy: f32,
+}
+
+// A turned box of space: an oriented bounding box by its centre and three half edges, u, v and w.
+#[repr(C)]
+pub struct Obb3 {
+    // x of the centre.
+    pub cx: f32,
+    // y of the centre.
+    pub cy: f32,
+    // z of the centre.
+    pub cz: f32,
+    // x of the half edge u.
+    pub ux: f32,
+    // y of the half edge u.
+    pub uy: f32,
+    // z of the half edge u.
+    pub uz: f32,
+    // x of the half edge v.
+    pub vx: f32,
+    // y of the half edge v.
+    pub vy: f32,
+    // z of the half edge v.
+    pub vz: f32,
+    // x of the half edge w.
+    pub wx: f32,
+    // y of the half edge w.
+    pub wy: f32,
+    // z of the half edge w.
+    pub wz: f32,
 }
 
 // A 3 by 3 matrix in column-major order: mRC stands in row R and column C.

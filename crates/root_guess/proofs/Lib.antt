@@ -1,0 +1,3 @@
+-- The laws behind the root by a guess.
+mod Confirmed
+mod Numbers
