@@ -1,0 +1,2 @@
+pub mod Intersect
+pub mod Promise
