@@ -24,6 +24,7 @@
  *
  * Axes. x grows with the column and y with the row. A line rises where y grows with x, as in direction (1, 1), and falls
  * where it shrinks, as in direction (1, -1). On a screen with row 0 on top a line that rises so goes down to the right.
+ * In space z is the third axis; where it points is the caller's.
  *
  * Lists. A list is a pointer to its first entry and the number of its entries; where that number is 0 the pointer may be
  * null. A pointer must be aligned for its type; that many entries must be readable, and writable unless the pointer is to
@@ -63,23 +64,25 @@ extern "C" {
 /* ---- the status of an answer */
 
 enum bgz_status {
-    BGZ_ANSWERED = 0,             /* an answer: it stands in the other fields */
-    BGZ_REFUSED_ROOM = 1,         /* a lent list is shorter than what is to be written */
-    BGZ_REFUSED_SAME_ENDS = 2,    /* both ends of a stroke are equal */
-    BGZ_REFUSED_COORDINATE = 3,   /* a coordinate is above its limit in size, or for tiles not finite */
-    BGZ_REFUSED_SIZE = 4,         /* a side of an image or a sheet is too large, or a tile size is 0 or too large */
-    BGZ_REFUSED_ORDER = 5,        /* a range is not ordered: low is not at most high */
-    BGZ_REFUSED_RADIUS = 6,       /* a radius is not at least 0 */
-    BGZ_REFUSED_NAN_LENGTH = 7,   /* a length to the turned box is NaN */
-    BGZ_REFUSED_NO_IMAGE = 8,     /* a corner has no image */
-    BGZ_REFUSED_INDEX = 9,        /* an index is not below the number of boxes */
-    BGZ_REFUSED_MARK = 10,        /* a hatch list does not begin with its mark */
-    BGZ_REFUSED_VERSION = 11,     /* a hatch list has an unknown version */
-    BGZ_REFUSED_COUNT = 12,       /* a hatch list has too many records */
-    BGZ_REFUSED_LENGTH = 13,      /* the bytes of a hatch list are too few or too many */
-    BGZ_REFUSED_LINES = 14,       /* a list of lines is not a multiple of four floats */
-    BGZ_REFUSED_NOT_FINITE = 15,  /* a coordinate of a stroke is not finite */
-    BGZ_NONE = 255                /* no refusal, and none of what was asked for */
+    BGZ_ANSWERED = 0,                 /* an answer: it stands in the other fields */
+    BGZ_REFUSED_ROOM = 1,             /* a lent list is shorter than what is to be written */
+    BGZ_REFUSED_SAME_ENDS = 2,        /* both ends of a stroke are equal */
+    BGZ_REFUSED_COORDINATE = 3,       /* a coordinate is above its limit in size, or for tiles not finite */
+    BGZ_REFUSED_SIZE = 4,             /* a side of an image or a sheet is too large, or a tile size is 0 or too large */
+    BGZ_REFUSED_ORDER = 5,            /* a range is not ordered: low is not at most high */
+    BGZ_REFUSED_RADIUS = 6,           /* a radius is not at least 0 */
+    BGZ_REFUSED_NAN_LENGTH = 7,       /* a length to the turned box is NaN */
+    BGZ_REFUSED_NO_IMAGE = 8,         /* a corner has no image */
+    BGZ_REFUSED_INDEX = 9,            /* an index is not below the number of boxes */
+    BGZ_REFUSED_MARK = 10,            /* a hatch list does not begin with its mark */
+    BGZ_REFUSED_VERSION = 11,         /* a hatch list has an unknown version */
+    BGZ_REFUSED_COUNT = 12,           /* a hatch list has too many records */
+    BGZ_REFUSED_LENGTH = 13,          /* the bytes of a hatch list are too few or too many */
+    BGZ_REFUSED_LINES = 14,           /* a list of lines is not a multiple of four floats */
+    BGZ_REFUSED_NOT_FINITE = 15,      /* a coordinate of a stroke is not finite */
+    BGZ_REFUSED_NAN_PROJECTION = 16,  /* a corner's projection is NaN on an axis that is reached, whether it separates the boxes or not */
+    BGZ_REFUSED_CORNER = 17,          /* the number of a corner is above 7 */
+    BGZ_NONE = 255                    /* no refusal, and none of what was asked for */
 };
 
 /* What a status says, in one line. */
@@ -117,6 +120,10 @@ static inline const char *bgz_refusal_text(uint32_t status) {
         return "a list of lines is not a multiple of four floats";
     case BGZ_REFUSED_NOT_FINITE:
         return "a coordinate of a stroke is not finite";
+    case BGZ_REFUSED_NAN_PROJECTION:
+        return "a corner's projection is NaN on an axis that is reached, whether it separates the boxes or not";
+    case BGZ_REFUSED_CORNER:
+        return "the number of a corner is above 7";
     case BGZ_NONE:
         return "no refusal, and none of what was asked for";
     default:
@@ -132,6 +139,13 @@ typedef struct bgz_vec2 {
     float y;  /* Grows with the row. */
 } bgz_vec2;
 
+/* A point or a vector of space. */
+typedef struct bgz_vec3 {
+    float x;  /* Along the first axis. */
+    float y;  /* Along the second axis. */
+    float z;  /* Along the third axis. */
+} bgz_vec3;
+
 /* The numbers from low to high. */
 typedef struct bgz_range {
     float low;   /* The least number. */
@@ -146,6 +160,16 @@ typedef struct bgz_aabb2 {
     float max_y;  /* y of the high corner. */
 } bgz_aabb2;
 
+/* An upright box of space: an axis-aligned bounding box by its low and its high corner. */
+typedef struct bgz_aabb3 {
+    float min_x;  /* x of the low corner. */
+    float min_y;  /* y of the low corner. */
+    float min_z;  /* z of the low corner. */
+    float max_x;  /* x of the high corner. */
+    float max_y;  /* y of the high corner. */
+    float max_z;  /* z of the high corner. */
+} bgz_aabb3;
+
 /* A turned box: an oriented bounding box by its centre and two half edges, u and v. */
 typedef struct bgz_obb2 {
     float cx;  /* x of the centre. */
@@ -155,6 +179,22 @@ typedef struct bgz_obb2 {
     float vx;  /* x of the half edge v. */
     float vy;  /* y of the half edge v. */
 } bgz_obb2;
+
+/* A turned box of space: an oriented bounding box by its centre and three half edges, u, v and w. */
+typedef struct bgz_obb3 {
+    float cx;  /* x of the centre. */
+    float cy;  /* y of the centre. */
+    float cz;  /* z of the centre. */
+    float ux;  /* x of the half edge u. */
+    float uy;  /* y of the half edge u. */
+    float uz;  /* z of the half edge u. */
+    float vx;  /* x of the half edge v. */
+    float vy;  /* y of the half edge v. */
+    float vz;  /* z of the half edge v. */
+    float wx;  /* x of the half edge w. */
+    float wy;  /* y of the half edge w. */
+    float wz;  /* z of the half edge w. */
+} bgz_obb3;
 
 /* A 3 by 3 matrix in column-major order: mRC stands in row R and column C. */
 typedef struct bgz_mat3 {
@@ -189,6 +229,21 @@ typedef struct bgz_corners {
     bgz_vec2 p3;  /* c + u - v. */
 } bgz_corners;
 
+/*
+ * Eight corners of space: four of one face, each joined to the next by an edge and the last to the first, then those of
+ * the opposite face in the same order.
+ */
+typedef struct bgz_corners3 {
+    bgz_vec3 p0;  /* c - u - v - w. */
+    bgz_vec3 p1;  /* c + u - v - w. */
+    bgz_vec3 p2;  /* c + u + v - w. */
+    bgz_vec3 p3;  /* c - u + v - w. */
+    bgz_vec3 p4;  /* c - u - v + w. */
+    bgz_vec3 p5;  /* c + u - v + w. */
+    bgz_vec3 p6;  /* c + u + v + w. */
+    bgz_vec3 p7;  /* c - u + v + w. */
+} bgz_corners3;
+
 /* ---- answers */
 
 /* A number. */
@@ -203,11 +258,29 @@ typedef struct bgz_point_answer {
     bgz_vec2 value;
 } bgz_point_answer;
 
+/* A point of space. */
+typedef struct bgz_point3_answer {
+    uint32_t status;
+    bgz_vec3 value;
+} bgz_point3_answer;
+
 /* An upright box. */
 typedef struct bgz_box_answer {
     uint32_t status;
     bgz_aabb2 value;
 } bgz_box_answer;
+
+/* An upright box of space. */
+typedef struct bgz_box3_answer {
+    uint32_t status;
+    bgz_aabb3 value;
+} bgz_box3_answer;
+
+/* Yes or no. */
+typedef struct bgz_bool_answer {
+    uint32_t status;
+    bool value;
+} bgz_bool_answer;
 
 /* The stretch of a line or a ray in a box, by the parameters t of its two ends: the points origin + t * direction. */
 typedef struct bgz_interval_answer {
@@ -692,6 +765,188 @@ bool bgz_obb2_is_intersect_obb2(bgz_obb2 a, bgz_obb2 b);
  * Example: (0, 0, 1, 1, -1, 1), (1, 1, 3, 3) gives true.
  */
 bool bgz_obb2_is_intersect_aabb2(bgz_obb2 o, bgz_aabb2 b);
+
+/* ---- aabb_3: upright boxes of space: clipping lines, and what is inside. */
+
+/*
+ * The stretch of the line origin + t * direction in the box b, as bgz_aabb_intersections_against_line has it, with z
+ * after x and y: tmin <= tmax, both finite. None if the line misses b; touching a face, an edge or a corner is a hit.
+ * Example: (0, 0, 0, 4, 2, 1), (6, -1, 0.5), (-1, 1, 0) gives (2, 3).
+ */
+bgz_interval_answer bgz_aabb_3_intersections_against_line(bgz_aabb3 b, bgz_vec3 origin, bgz_vec3 direction);
+
+/*
+ * Whether p is in b, faces included. A NaN is outside, unlike for bgz_aabb3_is_contain.
+ * Example: (0, 0, 0, 4, 2, 1), (4, 1, 1) gives true.
+ */
+bool bgz_aabb_3_is_include_point(bgz_aabb3 b, bgz_vec3 p);
+
+/*
+ * (low + high) * 0.5, by component.
+ * Example: (0, 0, 0, 4, 2, 1) gives (2, 1, 0.5).
+ */
+bgz_vec3 bgz_aabb_3_center(bgz_aabb3 b);
+
+/*
+ * The answer of bgz_aabb_3_intersections_against_line if tmax >= 0, and else none. tmin is not raised to 0: it may be
+ * negative.
+ * Example: (0, 0, 0, 4, 2, 1), (2, 1, 0.5), (1, 0, 0) gives (-2, 2).
+ */
+bgz_interval_answer bgz_aabb_3_intersections_against_ray(bgz_aabb3 b, bgz_vec3 origin, bgz_vec3 direction);
+
+/*
+ * ---- aabb3: upright boxes of space: making, scaling and measuring them, what they hold and meet, and flat lists of
+ * them.
+ */
+
+/*
+ * The box around two boxes: the low end of a where it is below that of b, the high end where it is above that of b, and
+ * else the end of b. So a NaN of a drops out, and one of b stays.
+ * Example: (0, 0, 0, 1, 1, 1), (2, -1, 0, 3, 0, 2) gives (0, -1, 0, 3, 1, 2).
+ */
+bgz_aabb3 bgz_aabb3_from_two_aabbs(bgz_aabb3 a, bgz_aabb3 b);
+
+/*
+ * The cube from p - eps to p + eps. Any eps is taken.
+ * Example: (3, 4, 5), 1 gives (2, 3, 4, 4, 5, 6).
+ */
+bgz_aabb3 bgz_aabb3_set_as_cube(bgz_vec3 p, float eps);
+
+/*
+ * b widened to the low ends p - eps and the high ends p + eps, by minimum and maximum. Any eps is taken: one below 0
+ * lowers a low end to no less than p + |eps| and raises a high end to no more than p - |eps|, so that the box need not
+ * hold p.
+ * Example: (0, 0, 0, 1, 1, 1), (3, 0, 0), 0 gives (0, 0, 0, 3, 1, 1).
+ */
+bgz_aabb3 bgz_aabb3_add_point(bgz_aabb3 b, bgz_vec3 p, float eps);
+
+/*
+ * (low + high) * 0.5, by component.
+ * Example: (0, 0, 0, 4, 2, 1) gives (2, 1, 0.5).
+ */
+bgz_vec3 bgz_aabb3_center(bgz_aabb3 b);
+
+/*
+ * high - low, by component: the lengths of the edges.
+ * Example: (0, 0, 0, 4, 2, 1) gives (4, 2, 1).
+ */
+bgz_vec3 bgz_aabb3_size(bgz_aabb3 b);
+
+/*
+ * The box with the centre of b and edges s times as long: the centre's coordinate and, on either side of it, edge * s *
+ * 0.5.
+ * Example: (0, 0, 0, 4, 2, 2), 2 gives (-2, -1, -1, 6, 3, 3).
+ */
+bgz_aabb3 bgz_aabb3_scale(bgz_aabb3 b, float s);
+
+/*
+ * The product of the edges, x times y times z. Of a box reversed in one dimension or in three it is negative or a zero.
+ * Example: (0, 0, 0, 4, 2, 3) gives 24.
+ */
+float bgz_aabb3_volume(bgz_aabb3 b);
+
+/*
+ * The longest edge, by comparisons: that of x if it is above that of y, else that of y; and this if it is above that of
+ * z, else that of z. So a NaN in x drops out, one in y drops out and x with it, and one in z is the answer.
+ * Example: (0, 0, 0, 4, 2, 3) gives 4.
+ */
+float bgz_aabb3_max_edge_size(bgz_aabb3 b);
+
+/*
+ * The corner of a number, as hexahedra number them: 0 to 3 are low in z, from the low corner along x and round the
+ * face; 4 to 7 are high in z and stand over them.
+ * Refused: BGZ_REFUSED_CORNER if index is above 7.
+ * Example: (0, 0, 0, 4, 2, 1), 6 gives (4, 2, 1).
+ */
+bgz_point3_answer bgz_aabb3_xyz_from_hex_index(bgz_aabb3 b, size_t index);
+
+/*
+ * Whether b is ordered in x, min_x <= max_x. y and z are not looked at.
+ * Example: (0, 0, 0, 4, 2, 1) gives true.
+ */
+bool bgz_aabb3_is_active(bgz_aabb3 b);
+
+/*
+ * Whether p is in b, faces included: below no low end and above no high one. A NaN puts nothing outside: a coordinate
+ * or an end that is one does not bound its dimension. For bgz_aabb_3_is_include_point a NaN is outside.
+ * Example: (0, 0, 0, 4, 2, 1), (4, 1, 1) gives true.
+ */
+bool bgz_aabb3_is_contain(bgz_aabb3 b, bgz_vec3 p);
+
+/*
+ * Whether two boxes meet, faces included: both are ordered in x, and in no dimension the low end of one is above the
+ * high end of the other. A NaN in y or z parts nothing.
+ * Example: (0, 0, 0, 1, 1, 1), (1, 1, 1, 2, 2, 2) gives true.
+ */
+bool bgz_aabb3_is_intersect(bgz_aabb3 a, bgz_aabb3 b);
+
+/*
+ * The squared distance from p to the nearest point of b, 0 inside: each coordinate is raised to the low end and then
+ * lowered to the high one, by minimum and maximum, and the squares of what it moved are summed from 0. In a dimension
+ * in which b is reversed the nearest is the high end. A NaN in p gives a NaN, and so does an infinite coordinate that
+ * is not moved.
+ * Example: (0, 0, 0, 1, 1, 1), (3, 0.5, 0) gives 4.
+ */
+float bgz_aabb3_min_sq_dist_to_point3(bgz_aabb3 b, bgz_vec3 p);
+
+/*
+ * Whether two boxes of space may be no further apart than threshold: no if in x, y or z the gap between them is above
+ * it. The first dimension with a no or a refusal decides, in this order. Ranges that touch or overlap have no gap,
+ * whatever threshold is; with a NaN threshold no gap is above it.
+ * Refused: BGZ_REFUSED_ORDER if a dimension is reached in which the range of a or of b is not low <= high, as with a
+ * NaN.
+ * Example: (0, 0, 0, 1, 1, 1), (3, 0, 0, 4, 1, 1), 1.5 gives false.
+ */
+bgz_bool_answer bgz_aabb3_is_possible_distance_to_aabb2_smaller_than_threshold(bgz_aabb3 a, bgz_aabb3 b,
+                                                                               float threshold);
+
+/*
+ * How many whole boxes a flat list has: its length / 6, rounded down. Each box is min_x, min_y, min_z, max_x, max_y,
+ * max_z.
+ * Example: [0, 0, 0, 1, 1, 1, 2] gives 1.
+ */
+size_t bgz_aabb3_count(const float *all, size_t all_length);
+
+/*
+ * The box at an index of a flat list, from 0.
+ * Refused: BGZ_REFUSED_INDEX if index is not below bgz_aabb3_count.
+ * Example: [0, 0, 0, 1, 1, 1, 2, 2, 2, 3, 3, 3], 1 gives (2, 2, 2, 3, 3, 3).
+ */
+bgz_box3_answer bgz_aabb3_from_aabbs(const float *all, size_t all_length, size_t index);
+
+/*
+ * The first box of a flat list: the one at index 0.
+ * Refused: BGZ_REFUSED_INDEX if the list has fewer than six floats.
+ * Example: [0, 0, 0, 1, 1, 1, 2] gives (0, 0, 0, 1, 1, 1).
+ */
+bgz_box3_answer bgz_aabb3_from_slice(const float *s, size_t s_length);
+
+/* ---- obb3: turned boxes of space. */
+
+/*
+ * c - u - v - w, c + u - v - w, c + u + v - w, c - u + v - w, and the same four with + w.
+ * Example: (0, 0, 0, 1, 0, 0, 0, 2, 0, 0, 0, 3) gives ((-1, -2, -3), (1, -2, -3), (1, 2, -3), (-1, 2, -3), (-1, -2, 3),
+ * (1, -2, 3), (1, 2, 3), (-1, 2, 3)).
+ */
+bgz_corners3 bgz_obb3_corner_points(bgz_obb3 o);
+
+/*
+ * Whether p is in o, faces included, by its dot products with u, v and w, each edge stretched by 1 + eps. A product
+ * that is a NaN counts as inside, and a half edge of length 0 does not bound its direction.
+ * Example: (0, 0, 0, 2, 0, 0, 0, 1, 0, 0, 0, 1), (2, 1, 1), 0 gives true.
+ */
+bool bgz_obb3_is_include_point(bgz_obb3 o, bgz_vec3 p, float eps);
+
+/*
+ * Whether two turned boxes meet: no if on some axis the computed projections of the corners of one lie strictly below
+ * those of the other. There are fifteen: u, v and w of a, each times 1 / its norm, those of b, and the cross product of
+ * each of these of a with each of b. The first axis that parts the boxes, or on which a projection is a NaN, decides.
+ * Ranges whose computed ends are equal overlap; rounding parts some boxes that touch.
+ * Refused: BGZ_REFUSED_NAN_PROJECTION if a projection is a NaN on an axis that is reached, whether it parts the boxes
+ * or not; as with a half edge of length 0.
+ * Example: (0, 0, 0, 1, 0, 0, 0, 1, 0, 0, 0, 1), (3, 0, 0, 1, 0, 0, 0, 1, 0, 0, 0, 1) gives false.
+ */
+bgz_bool_answer bgz_obb3_is_intersect_to_obb3(bgz_obb3 a, bgz_obb3 b);
 
 /*
  * ---- hatch: hatch lists, read, written and reported on. The bytes of a hatch list are "HSL", a 16-bit version, which

@@ -3,7 +3,7 @@
 //! Written by tests/generate from crates/c_answers/src/lib.rt and crates/c_hatch/src/answer.rt; not to be edited.
 
 use crate::refusal::{Refusal, RefusalAt};
-use crate::shapes::{Aabb2, Vec2};
+use crate::shapes::{Aabb2, Aabb3, Vec2, Vec3};
 
 /// The status of an answer.
 pub const ANSWERED: u32 = 0;
@@ -80,6 +80,19 @@ impl PointAnswer {
 }
 
 #[repr(C)]
+pub struct Point3Answer {
+    pub status: u32,
+    pub value: Vec3,
+}
+
+impl Point3Answer {
+    #[inline]
+    pub fn result(self) -> Result<Vec3, Refusal> {
+        result(self.status, self.value)
+    }
+}
+
+#[repr(C)]
 pub struct BoxAnswer {
     pub status: u32,
     pub value: Aabb2,
@@ -88,6 +101,32 @@ pub struct BoxAnswer {
 impl BoxAnswer {
     #[inline]
     pub fn result(self) -> Result<Aabb2, Refusal> {
+        result(self.status, self.value)
+    }
+}
+
+#[repr(C)]
+pub struct Box3Answer {
+    pub status: u32,
+    pub value: Aabb3,
+}
+
+impl Box3Answer {
+    #[inline]
+    pub fn result(self) -> Result<Aabb3, Refusal> {
+        result(self.status, self.value)
+    }
+}
+
+#[repr(C)]
+pub struct BoolAnswer {
+    pub status: u32,
+    pub value: bool,
+}
+
+impl BoolAnswer {
+    #[inline]
+    pub fn result(self) -> Result<bool, Refusal> {
         result(self.status, self.value)
     }
 }

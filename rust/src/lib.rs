@@ -43,7 +43,8 @@
 //! # Axes
 //!
 //! x grows with the column and y with the row. A line rises where y grows with x, as in direction (1, 1), and falls where it shrinks, as in
-//! direction (1, -1). On a screen with row 0 on top a line that rises so goes down to the right.
+//! direction (1, -1). On a screen with row 0 on top a line that rises so goes down to the right. In space z is the third axis; where it points is
+//! the caller's.
 //!
 //! # Building
 //!
@@ -60,6 +61,8 @@
 
 pub mod aabb;
 pub mod aabb2;
+pub mod aabb3;
+pub mod aabb_3;
 #[doc(hidden)]
 pub mod answers;
 pub mod edge2;
@@ -68,6 +71,7 @@ pub mod hatch;
 pub mod limits;
 pub mod mat3;
 pub mod obb2;
+pub mod obb3;
 pub mod range;
 mod refusal;
 pub mod shapes;
@@ -77,4 +81,4 @@ mod view;
 pub use answers::{Interval, Pixels, Read};
 pub use refusal::{Refusal, RefusalAt};
 pub use shapes::*;
-pub use view::Boxes;
+pub use view::{Boxes, Boxes3};

@@ -55,6 +55,13 @@ impl Refusal {
     /// A coordinate of a stroke is not finite.
     pub const NOT_FINITE: Refusal = Refusal(15);
 
+    /// A corner's projection is NaN on an axis that is reached, whether it separates the boxes or
+    /// not.
+    pub const NAN_PROJECTION: Refusal = Refusal(16);
+
+    /// The number of a corner is above 7.
+    pub const CORNER: Refusal = Refusal(17);
+
     /// The number of the refusal.
     #[inline]
     pub const fn number(self) -> u32 {
@@ -94,6 +101,11 @@ impl Refusal {
             Refusal::LENGTH => ("LENGTH", "the bytes of a hatch list are too few or too many"),
             Refusal::LINES => ("LINES", "a list of lines is not a multiple of four floats"),
             Refusal::NOT_FINITE => ("NOT_FINITE", "a coordinate of a stroke is not finite"),
+            Refusal::NAN_PROJECTION => (
+                "NAN_PROJECTION",
+                "a corner's projection is NaN on an axis that is reached, whether it separates the boxes or not",
+            ),
+            Refusal::CORNER => ("CORNER", "the number of a corner is above 7"),
             _ => ("UNKNOWN", "not a refusal of this library"),
         }
     }

@@ -27,6 +27,32 @@ impl From<Vec2> for [f32; 2] {
     }
 }
 
+/// A point or a vector of space.
+#[derive(Clone, Copy, Debug, PartialEq)]
+#[repr(C)]
+pub struct Vec3 {
+    /// Along the first axis.
+    pub x: f32,
+    /// Along the second axis.
+    pub y: f32,
+    /// Along the third axis.
+    pub z: f32,
+}
+
+impl From<[f32; 3]> for Vec3 {
+    #[inline]
+    fn from([x, y, z]: [f32; 3]) -> Self {
+        Vec3 { x, y, z }
+    }
+}
+
+impl From<Vec3> for [f32; 3] {
+    #[inline]
+    fn from(s: Vec3) -> Self {
+        [s.x, s.y, s.z]
+    }
+}
+
 /// The numbers from low to high.
 #[derive(Clone, Copy, Debug, PartialEq)]
 #[repr(C)]
@@ -79,6 +105,38 @@ impl From<Aabb2> for [f32; 4] {
     }
 }
 
+/// An upright box of space: an axis-aligned bounding box by its low and its high corner.
+#[derive(Clone, Copy, Debug, PartialEq)]
+#[repr(C)]
+pub struct Aabb3 {
+    /// x of the low corner.
+    pub min_x: f32,
+    /// y of the low corner.
+    pub min_y: f32,
+    /// z of the low corner.
+    pub min_z: f32,
+    /// x of the high corner.
+    pub max_x: f32,
+    /// y of the high corner.
+    pub max_y: f32,
+    /// z of the high corner.
+    pub max_z: f32,
+}
+
+impl From<[f32; 6]> for Aabb3 {
+    #[inline]
+    fn from([min_x, min_y, min_z, max_x, max_y, max_z]: [f32; 6]) -> Self {
+        Aabb3 { min_x, min_y, min_z, max_x, max_y, max_z }
+    }
+}
+
+impl From<Aabb3> for [f32; 6] {
+    #[inline]
+    fn from(s: Aabb3) -> Self {
+        [s.min_x, s.min_y, s.min_z, s.max_x, s.max_y, s.max_z]
+    }
+}
+
 /// A turned box: an oriented bounding box by its centre and two half edges, u and v.
 #[derive(Clone, Copy, Debug, PartialEq)]
 #[repr(C)]
@@ -108,6 +166,50 @@ impl From<Obb2> for [f32; 6] {
     #[inline]
     fn from(s: Obb2) -> Self {
         [s.cx, s.cy, s.ux, s.uy, s.vx, s.vy]
+    }
+}
+
+/// A turned box of space: an oriented bounding box by its centre and three half edges, u, v and w.
+#[derive(Clone, Copy, Debug, PartialEq)]
+#[repr(C)]
+pub struct Obb3 {
+    /// x of the centre.
+    pub cx: f32,
+    /// y of the centre.
+    pub cy: f32,
+    /// z of the centre.
+    pub cz: f32,
+    /// x of the half edge u.
+    pub ux: f32,
+    /// y of the half edge u.
+    pub uy: f32,
+    /// z of the half edge u.
+    pub uz: f32,
+    /// x of the half edge v.
+    pub vx: f32,
+    /// y of the half edge v.
+    pub vy: f32,
+    /// z of the half edge v.
+    pub vz: f32,
+    /// x of the half edge w.
+    pub wx: f32,
+    /// y of the half edge w.
+    pub wy: f32,
+    /// z of the half edge w.
+    pub wz: f32,
+}
+
+impl From<[f32; 12]> for Obb3 {
+    #[inline]
+    fn from([cx, cy, cz, ux, uy, uz, vx, vy, vz, wx, wy, wz]: [f32; 12]) -> Self {
+        Obb3 { cx, cy, cz, ux, uy, uz, vx, vy, vz, wx, wy, wz }
+    }
+}
+
+impl From<Obb3> for [f32; 12] {
+    #[inline]
+    fn from(s: Obb3) -> Self {
+        [s.cx, s.cy, s.cz, s.ux, s.uy, s.uz, s.vx, s.vy, s.vz, s.wx, s.wy, s.wz]
     }
 }
 
@@ -213,5 +315,55 @@ impl From<Corners> for [f32; 8] {
     #[inline]
     fn from(s: Corners) -> Self {
         [s.p0.x, s.p0.y, s.p1.x, s.p1.y, s.p2.x, s.p2.y, s.p3.x, s.p3.y]
+    }
+}
+
+/// Eight corners of space: four of one face, each joined to the next by an edge and the last to the
+/// first, then those of the opposite face in the same order.
+#[derive(Clone, Copy, Debug, PartialEq)]
+#[repr(C)]
+pub struct Corners3 {
+    /// c - u - v - w.
+    pub p0: Vec3,
+    /// c + u - v - w.
+    pub p1: Vec3,
+    /// c + u + v - w.
+    pub p2: Vec3,
+    /// c - u + v - w.
+    pub p3: Vec3,
+    /// c - u - v + w.
+    pub p4: Vec3,
+    /// c + u - v + w.
+    pub p5: Vec3,
+    /// c + u + v + w.
+    pub p6: Vec3,
+    /// c - u + v + w.
+    pub p7: Vec3,
+}
+
+impl From<[f32; 24]> for Corners3 {
+    #[inline]
+    fn from(floats: [f32; 24]) -> Self {
+        Corners3 {
+            p0: Vec3 { x: floats[0], y: floats[1], z: floats[2] },
+            p1: Vec3 { x: floats[3], y: floats[4], z: floats[5] },
+            p2: Vec3 { x: floats[6], y: floats[7], z: floats[8] },
+            p3: Vec3 { x: floats[9], y: floats[10], z: floats[11] },
+            p4: Vec3 { x: floats[12], y: floats[13], z: floats[14] },
+            p5: Vec3 { x: floats[15], y: floats[16], z: floats[17] },
+            p6: Vec3 { x: floats[18], y: floats[19], z: floats[20] },
+            p7: Vec3 { x: floats[21], y: floats[22], z: floats[23] },
+        }
+    }
+}
+
+impl From<Corners3> for [f32; 24] {
+    #[inline]
+    fn from(s: Corners3) -> Self {
+        [
+            s.p0.x, s.p0.y, s.p0.z, s.p1.x, s.p1.y, s.p1.z, s.p2.x, s.p2.y, s.p2.z, s.p3.x, s.p3.y,
+            s.p3.z, s.p4.x, s.p4.y, s.p4.z, s.p5.x, s.p5.y, s.p5.z, s.p6.x, s.p6.y, s.p6.z, s.p7.x,
+            s.p7.y, s.p7.z,
+        ]
     }
 }

@@ -500,6 +500,248 @@ static void obb2_is_intersect_aabb2(const struct arguments *in, struct answer *o
     out->values[0].u = r;
 }
 
+static void aabb_3_intersections_against_line(const struct arguments *in, struct answer *out) {
+    const float *f = in->floats;
+    bgz_interval_answer r = bgz_aabb_3_intersections_against_line(
+        (bgz_aabb3){f[0], f[1], f[2], f[3], f[4], f[5]}, (bgz_vec3){f[6], f[7], f[8]}, (bgz_vec3){f[9], f[10], f[11]});
+    out->status = r.status;
+    out->values[0].f = r.tmin;
+    out->values[1].f = r.tmax;
+}
+
+static void aabb_3_is_include_point(const struct arguments *in, struct answer *out) {
+    const float *f = in->floats;
+    bool r = bgz_aabb_3_is_include_point((bgz_aabb3){f[0], f[1], f[2], f[3], f[4], f[5]}, (bgz_vec3){f[6], f[7], f[8]});
+    out->status = BGZ_ANSWERED;
+    out->values[0].u = r;
+}
+
+static void aabb_3_center(const struct arguments *in, struct answer *out) {
+    const float *f = in->floats;
+    bgz_vec3 r = bgz_aabb_3_center((bgz_aabb3){f[0], f[1], f[2], f[3], f[4], f[5]});
+    out->status = BGZ_ANSWERED;
+    out->values[0].f = r.x;
+    out->values[1].f = r.y;
+    out->values[2].f = r.z;
+}
+
+static void aabb_3_intersections_against_ray(const struct arguments *in, struct answer *out) {
+    const float *f = in->floats;
+    bgz_interval_answer r = bgz_aabb_3_intersections_against_ray(
+        (bgz_aabb3){f[0], f[1], f[2], f[3], f[4], f[5]}, (bgz_vec3){f[6], f[7], f[8]}, (bgz_vec3){f[9], f[10], f[11]});
+    out->status = r.status;
+    out->values[0].f = r.tmin;
+    out->values[1].f = r.tmax;
+}
+
+static void aabb3_from_two_aabbs(const struct arguments *in, struct answer *out) {
+    const float *f = in->floats;
+    bgz_aabb3 r = bgz_aabb3_from_two_aabbs(
+        (bgz_aabb3){f[0], f[1], f[2], f[3], f[4], f[5]}, (bgz_aabb3){f[6], f[7], f[8], f[9], f[10], f[11]});
+    out->status = BGZ_ANSWERED;
+    out->values[0].f = r.min_x;
+    out->values[1].f = r.min_y;
+    out->values[2].f = r.min_z;
+    out->values[3].f = r.max_x;
+    out->values[4].f = r.max_y;
+    out->values[5].f = r.max_z;
+}
+
+static void aabb3_set_as_cube(const struct arguments *in, struct answer *out) {
+    const float *f = in->floats;
+    bgz_aabb3 r = bgz_aabb3_set_as_cube((bgz_vec3){f[6], f[7], f[8]}, f[9]);
+    out->status = BGZ_ANSWERED;
+    out->values[0].f = r.min_x;
+    out->values[1].f = r.min_y;
+    out->values[2].f = r.min_z;
+    out->values[3].f = r.max_x;
+    out->values[4].f = r.max_y;
+    out->values[5].f = r.max_z;
+}
+
+static void aabb3_add_point(const struct arguments *in, struct answer *out) {
+    const float *f = in->floats;
+    bgz_aabb3 r = bgz_aabb3_add_point(
+        (bgz_aabb3){f[0], f[1], f[2], f[3], f[4], f[5]}, (bgz_vec3){f[6], f[7], f[8]}, f[9]);
+    out->status = BGZ_ANSWERED;
+    out->values[0].f = r.min_x;
+    out->values[1].f = r.min_y;
+    out->values[2].f = r.min_z;
+    out->values[3].f = r.max_x;
+    out->values[4].f = r.max_y;
+    out->values[5].f = r.max_z;
+}
+
+static void aabb3_center(const struct arguments *in, struct answer *out) {
+    const float *f = in->floats;
+    bgz_vec3 r = bgz_aabb3_center((bgz_aabb3){f[0], f[1], f[2], f[3], f[4], f[5]});
+    out->status = BGZ_ANSWERED;
+    out->values[0].f = r.x;
+    out->values[1].f = r.y;
+    out->values[2].f = r.z;
+}
+
+static void aabb3_size(const struct arguments *in, struct answer *out) {
+    const float *f = in->floats;
+    bgz_vec3 r = bgz_aabb3_size((bgz_aabb3){f[0], f[1], f[2], f[3], f[4], f[5]});
+    out->status = BGZ_ANSWERED;
+    out->values[0].f = r.x;
+    out->values[1].f = r.y;
+    out->values[2].f = r.z;
+}
+
+static void aabb3_scale(const struct arguments *in, struct answer *out) {
+    const float *f = in->floats;
+    bgz_aabb3 r = bgz_aabb3_scale((bgz_aabb3){f[0], f[1], f[2], f[3], f[4], f[5]}, f[6]);
+    out->status = BGZ_ANSWERED;
+    out->values[0].f = r.min_x;
+    out->values[1].f = r.min_y;
+    out->values[2].f = r.min_z;
+    out->values[3].f = r.max_x;
+    out->values[4].f = r.max_y;
+    out->values[5].f = r.max_z;
+}
+
+static void aabb3_volume(const struct arguments *in, struct answer *out) {
+    const float *f = in->floats;
+    float r = bgz_aabb3_volume((bgz_aabb3){f[0], f[1], f[2], f[3], f[4], f[5]});
+    out->status = BGZ_ANSWERED;
+    out->values[0].f = r;
+}
+
+static void aabb3_max_edge_size(const struct arguments *in, struct answer *out) {
+    const float *f = in->floats;
+    float r = bgz_aabb3_max_edge_size((bgz_aabb3){f[0], f[1], f[2], f[3], f[4], f[5]});
+    out->status = BGZ_ANSWERED;
+    out->values[0].f = r;
+}
+
+static void aabb3_xyz_from_hex_index(const struct arguments *in, struct answer *out) {
+    const float *f = in->floats;
+    const uint64_t *u = in->wholes;
+    bgz_point3_answer r = bgz_aabb3_xyz_from_hex_index((bgz_aabb3){f[0], f[1], f[2], f[3], f[4], f[5]}, u[0]);
+    out->status = r.status;
+    out->values[0].f = r.value.x;
+    out->values[1].f = r.value.y;
+    out->values[2].f = r.value.z;
+}
+
+static void aabb3_is_active(const struct arguments *in, struct answer *out) {
+    const float *f = in->floats;
+    bool r = bgz_aabb3_is_active((bgz_aabb3){f[0], f[1], f[2], f[3], f[4], f[5]});
+    out->status = BGZ_ANSWERED;
+    out->values[0].u = r;
+}
+
+static void aabb3_is_contain(const struct arguments *in, struct answer *out) {
+    const float *f = in->floats;
+    bool r = bgz_aabb3_is_contain((bgz_aabb3){f[0], f[1], f[2], f[3], f[4], f[5]}, (bgz_vec3){f[6], f[7], f[8]});
+    out->status = BGZ_ANSWERED;
+    out->values[0].u = r;
+}
+
+static void aabb3_is_intersect(const struct arguments *in, struct answer *out) {
+    const float *f = in->floats;
+    bool r = bgz_aabb3_is_intersect(
+        (bgz_aabb3){f[0], f[1], f[2], f[3], f[4], f[5]}, (bgz_aabb3){f[6], f[7], f[8], f[9], f[10], f[11]});
+    out->status = BGZ_ANSWERED;
+    out->values[0].u = r;
+}
+
+static void aabb3_min_sq_dist_to_point3(const struct arguments *in, struct answer *out) {
+    const float *f = in->floats;
+    float r = bgz_aabb3_min_sq_dist_to_point3(
+        (bgz_aabb3){f[0], f[1], f[2], f[3], f[4], f[5]}, (bgz_vec3){f[6], f[7], f[8]});
+    out->status = BGZ_ANSWERED;
+    out->values[0].f = r;
+}
+
+static void aabb3_is_possible_distance_to_aabb2_smaller_than_threshold(const struct arguments *in, struct answer *out) {
+    const float *f = in->floats;
+    bgz_bool_answer r = bgz_aabb3_is_possible_distance_to_aabb2_smaller_than_threshold(
+        (bgz_aabb3){f[0], f[1], f[2], f[3], f[4], f[5]}, (bgz_aabb3){f[6], f[7], f[8], f[9], f[10], f[11]}, f[12]);
+    out->status = r.status;
+    out->values[0].u = r.value;
+}
+
+static void aabb3_count(const struct arguments *in, struct answer *out) {
+    size_t r = bgz_aabb3_count(in->lists[0].start, in->lists[0].length);
+    out->status = BGZ_ANSWERED;
+    out->values[0].u = r;
+}
+
+static void aabb3_from_aabbs(const struct arguments *in, struct answer *out) {
+    const uint64_t *u = in->wholes;
+    bgz_box3_answer r = bgz_aabb3_from_aabbs(in->lists[0].start, in->lists[0].length, u[0]);
+    out->status = r.status;
+    out->values[0].f = r.value.min_x;
+    out->values[1].f = r.value.min_y;
+    out->values[2].f = r.value.min_z;
+    out->values[3].f = r.value.max_x;
+    out->values[4].f = r.value.max_y;
+    out->values[5].f = r.value.max_z;
+}
+
+static void aabb3_from_slice(const struct arguments *in, struct answer *out) {
+    bgz_box3_answer r = bgz_aabb3_from_slice(in->lists[0].start, in->lists[0].length);
+    out->status = r.status;
+    out->values[0].f = r.value.min_x;
+    out->values[1].f = r.value.min_y;
+    out->values[2].f = r.value.min_z;
+    out->values[3].f = r.value.max_x;
+    out->values[4].f = r.value.max_y;
+    out->values[5].f = r.value.max_z;
+}
+
+static void obb3_corner_points(const struct arguments *in, struct answer *out) {
+    const float *f = in->floats;
+    bgz_corners3 r = bgz_obb3_corner_points(
+        (bgz_obb3){f[0], f[1], f[2], f[3], f[4], f[5], f[6], f[7], f[8], f[9], f[10], f[11]});
+    out->status = BGZ_ANSWERED;
+    out->values[0].f = r.p0.x;
+    out->values[1].f = r.p0.y;
+    out->values[2].f = r.p0.z;
+    out->values[3].f = r.p1.x;
+    out->values[4].f = r.p1.y;
+    out->values[5].f = r.p1.z;
+    out->values[6].f = r.p2.x;
+    out->values[7].f = r.p2.y;
+    out->values[8].f = r.p2.z;
+    out->values[9].f = r.p3.x;
+    out->values[10].f = r.p3.y;
+    out->values[11].f = r.p3.z;
+    out->values[12].f = r.p4.x;
+    out->values[13].f = r.p4.y;
+    out->values[14].f = r.p4.z;
+    out->values[15].f = r.p5.x;
+    out->values[16].f = r.p5.y;
+    out->values[17].f = r.p5.z;
+    out->values[18].f = r.p6.x;
+    out->values[19].f = r.p6.y;
+    out->values[20].f = r.p6.z;
+    out->values[21].f = r.p7.x;
+    out->values[22].f = r.p7.y;
+    out->values[23].f = r.p7.z;
+}
+
+static void obb3_is_include_point(const struct arguments *in, struct answer *out) {
+    const float *f = in->floats;
+    bool r = bgz_obb3_is_include_point(
+        (bgz_obb3){f[0], f[1], f[2], f[3], f[4], f[5], f[6], f[7], f[8], f[9], f[10], f[11]},
+        (bgz_vec3){f[12], f[13], f[14]}, f[15]);
+    out->status = BGZ_ANSWERED;
+    out->values[0].u = r;
+}
+
+static void obb3_is_intersect_to_obb3(const struct arguments *in, struct answer *out) {
+    const float *f = in->floats;
+    bgz_bool_answer r = bgz_obb3_is_intersect_to_obb3(
+        (bgz_obb3){f[0], f[1], f[2], f[3], f[4], f[5], f[6], f[7], f[8], f[9], f[10], f[11]},
+        (bgz_obb3){f[12], f[13], f[14], f[15], f[16], f[17], f[18], f[19], f[20], f[21], f[22], f[23]});
+    out->status = r.status;
+    out->values[0].u = r.value;
+}
+
 static void hatch_read_floats(const struct arguments *in, struct answer *out) {
     bgz_read_answer r = bgz_hatch_read_floats(
         in->lists[1].start, in->lists[1].length, in->lists[0].start, in->lists[0].length);
@@ -668,6 +910,54 @@ const struct routine routines[] = {
      "a.cx a.cy a.ux a.uy a.vx a.vy b.cx b.cy b.ux b.uy b.vx b.vy", 0},
     {"obb2.is_intersect_aabb2", CALL(obb2_is_intersect_aabb2), "ffffffffff", "", "u",
      "o.cx o.cy o.ux o.uy o.vx o.vy b.min_x b.min_y b.max_x b.max_y", 0},
+    {"aabb_3.line", CALL(aabb_3_intersections_against_line), "ffffffffffff", "", "ff",
+     "b.min_x b.min_y b.min_z b.max_x b.max_y b.max_z origin.x origin.y origin.z direction.x direction.y direction.z", 0},
+    {"aabb_3.include", CALL(aabb_3_is_include_point), "fffffffff", "", "u",
+     "b.min_x b.min_y b.min_z b.max_x b.max_y b.max_z p.x p.y p.z", 0},
+    {"aabb_3.center", CALL(aabb_3_center), "ffffff", "", "fff",
+     "b.min_x b.min_y b.min_z b.max_x b.max_y b.max_z", 0},
+    {"aabb_3.ray", CALL(aabb_3_intersections_against_ray), "ffffffffffff", "", "ff",
+     "b.min_x b.min_y b.min_z b.max_x b.max_y b.max_z origin.x origin.y origin.z direction.x direction.y direction.z", 0},
+    {"aabb3.from_two_aabbs", CALL(aabb3_from_two_aabbs), "ffffffffffff", "", "ffffff",
+     "a.min_x a.min_y a.min_z a.max_x a.max_y a.max_z b.min_x b.min_y b.min_z b.max_x b.max_y b.max_z", 0},
+    {"aabb3.set_as_cube", CALL(aabb3_set_as_cube), "ffffffffff", "", "ffffff",
+     "b.min_x b.min_y b.min_z b.max_x b.max_y b.max_z p.x p.y p.z eps", 0},
+    {"aabb3.add_point", CALL(aabb3_add_point), "ffffffffff", "", "ffffff",
+     "b.min_x b.min_y b.min_z b.max_x b.max_y b.max_z p.x p.y p.z eps", 0},
+    {"aabb3.center", CALL(aabb3_center), "ffffff", "", "fff",
+     "b.min_x b.min_y b.min_z b.max_x b.max_y b.max_z", 0},
+    {"aabb3.size", CALL(aabb3_size), "ffffff", "", "fff",
+     "b.min_x b.min_y b.min_z b.max_x b.max_y b.max_z", 0},
+    {"aabb3.scale", CALL(aabb3_scale), "fffffff", "", "ffffff",
+     "b.min_x b.min_y b.min_z b.max_x b.max_y b.max_z s", 0},
+    {"aabb3.volume", CALL(aabb3_volume), "ffffff", "", "f",
+     "b.min_x b.min_y b.min_z b.max_x b.max_y b.max_z", 0},
+    {"aabb3.max_edge_size", CALL(aabb3_max_edge_size), "ffffff", "", "f",
+     "b.min_x b.min_y b.min_z b.max_x b.max_y b.max_z", 0},
+    {"aabb3.xyz_from_hex_index", CALL(aabb3_xyz_from_hex_index), "ffffffu", "", "fff",
+     "b.min_x b.min_y b.min_z b.max_x b.max_y b.max_z index", 0},
+    {"aabb3.is_active", CALL(aabb3_is_active), "ffffff", "", "u",
+     "b.min_x b.min_y b.min_z b.max_x b.max_y b.max_z", 0},
+    {"aabb3.is_contain", CALL(aabb3_is_contain), "fffffffff", "", "u",
+     "b.min_x b.min_y b.min_z b.max_x b.max_y b.max_z p.x p.y p.z", 0},
+    {"aabb3.is_intersect", CALL(aabb3_is_intersect), "ffffffffffff", "", "u",
+     "a.min_x a.min_y a.min_z a.max_x a.max_y a.max_z b.min_x b.min_y b.min_z b.max_x b.max_y b.max_z", 0},
+    {"aabb3.min_sq_dist_to_point3", CALL(aabb3_min_sq_dist_to_point3), "fffffffff", "", "f",
+     "b.min_x b.min_y b.min_z b.max_x b.max_y b.max_z p.x p.y p.z", 0},
+    {"aabb3.is_possible_distance", CALL(aabb3_is_possible_distance_to_aabb2_smaller_than_threshold), "fffffffffffff", "", "u",
+     "a.min_x a.min_y a.min_z a.max_x a.max_y a.max_z b.min_x b.min_y b.min_z b.max_x b.max_y b.max_z threshold", 0},
+    {"aabb3.count", CALL(aabb3_count), "F", "F", "u",
+     "all", 0},
+    {"aabb3.from_aabbs", CALL(aabb3_from_aabbs), "uF", "F", "ffffff",
+     "index all", 0},
+    {"aabb3.from_slice", CALL(aabb3_from_slice), "F", "F", "ffffff",
+     "s", 0},
+    {"obb3.corner_points", CALL(obb3_corner_points), "ffffffffffff", "", "ffffffffffffffffffffffff",
+     "o.cx o.cy o.cz o.ux o.uy o.uz o.vx o.vy o.vz o.wx o.wy o.wz", 0},
+    {"obb3.is_include_point", CALL(obb3_is_include_point), "ffffffffffffffff", "", "u",
+     "o.cx o.cy o.cz o.ux o.uy o.uz o.vx o.vy o.vz o.wx o.wy o.wz p.x p.y p.z eps", 0},
+    {"obb3.is_intersect_to_obb3", CALL(obb3_is_intersect_to_obb3), "ffffffffffffffffffffffff", "", "u",
+     "a.cx a.cy a.cz a.ux a.uy a.uz a.vx a.vy a.vz a.wx a.wy a.wz b.cx b.cy b.cz b.ux b.uy b.uz b.vx b.vy b.vz b.wx b.wy b.wz", 0},
     {"hatch.read_floats", CALL(hatch_read_floats), "rB", "fB", "ue",
      "room bytes", AT(ROOM) | AT(MARK) | AT(VERSION) | AT(COUNT) | AT(LENGTH)},
     {"hatch.read", CALL(hatch_read_patterns), "rB", "pB", "ue",
@@ -684,4 +974,4 @@ const struct routine routines[] = {
 
 const size_t routine_count = sizeof routines / sizeof routines[0];
 
-const uint32_t last_refusal = 15;
+const uint32_t last_refusal = 17;

@@ -9,7 +9,7 @@
 #include <stdint.h>
 
 /* What a routine may have of each; tests/generate holds the table to it. */
-enum { MOST_FLOATS = 16, MOST_WHOLES = 8, MOST_LISTS = 3, MOST_VALUES = 9 };
+enum { MOST_FLOATS = 24, MOST_WHOLES = 8, MOST_LISTS = 3, MOST_VALUES = 24 };
 
 /* A list as C hands it over: its start and the number of its entries. */
 struct list {

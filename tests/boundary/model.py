@@ -82,12 +82,17 @@ class Function:
     routine: str  # what it calls, as crate::routine
 
     @property
+    def parts(self):
+        """Module and name: bgz_obb2_corner_points. A number belongs to the module: bgz_aabb_3_center."""
+        return re.fullmatch(r"bgz_([a-z0-9]+(?:_\d+)?)_([a-z]\w*)", self.symbol).groups()
+
+    @property
     def module(self):
-        return self.symbol.split("_")[1]
+        return self.parts[0]
 
     @property
     def name(self):
-        return self.symbol.split("_", 2)[2]
+        return self.parts[1]
 
 
 @dataclasses.dataclass(frozen=True)

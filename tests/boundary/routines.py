@@ -15,9 +15,15 @@ NAMES = {
     "bgz_aabb_intersections_against_lines": "aabb.lines",
     "bgz_aabb_intersections_against_ray": "aabb.ray",
     "bgz_aabb_is_include_point": "aabb.include",
+    "bgz_aabb_3_intersections_against_line": "aabb_3.line",
+    "bgz_aabb_3_intersections_against_ray": "aabb_3.ray",
+    "bgz_aabb_3_is_include_point": "aabb_3.include",
+    "bgz_aabb3_is_possible_distance_to_aabb2_smaller_than_threshold": "aabb3.is_possible_distance",
     "bgz_hatch_read_patterns": "hatch.read",
     "bgz_hatch_write_patterns": "hatch.write",
 }
+# What a request has first that the function does not take, name and type: the box that the Rust's routine overwrites unread.
+UNREAD = {"bgz_aabb3_set_as_cube": ("b", "Aabb3")}
 # The letters of struct routine: a number that is none of these is a whole number; a list by its entries and whether it is written.
 NUMBERS = {"f32": "f", "i32": "i"}
 LISTS = {
@@ -71,6 +77,9 @@ class Call:
         # A shape that is lent: its type, its name and its numbers. What it holds afterwards is the answer, and what the function returns
         # is the status.
         self.lent = ()
+        if function.symbol in UNREAD:
+            name, shape = UNREAD[function.symbol]
+            self.fields += [(name + path, letter_of(number)) for path, number in model.scalars(shape)]
         # Lists of no fixed length stand last in a request.
         handed = {p.name: self.hand(p) for p in sorted(function.parameters, key=is_read_list)}
         self.arguments = [handed[p.name] for p in function.parameters]

@@ -1,6 +1,7 @@
 """The Rust wrapper's types: shapes, answers, refusals and limits."""
 
 import re
+import textwrap
 
 from limits import LIMITS
 from rust_text import WIDTH, answer_name, comment, conversion, converted, origin, signature, value_type
@@ -32,12 +33,16 @@ def made(t, names, model):
 
 
 def fitted(line):
-    """A struct or an array on a line of its own if it fits, and else a field a line."""
+    """A struct or an array on a line of its own if it fits; else a struct has a field a line, and an array's numbers fill the lines."""
     if len(line) <= WIDTH:
         return [line]
     indent = " " * (len(line) - len(line.lstrip()))
-    opening, inner, closing = re.fullmatch(r"( *[^{\[]*[{\[]) ?(.*?) ?([}\]])", line).groups()
-    return [opening, *(f"{indent}    {part}," for part in re.split(r", (?![^{]*\})", inner)), f"{indent}{closing}"]
+    opening, inner, closing = re.fullmatch(r"( *\w* ?[{\[]) ?(.*?) ?([}\]])", line).groups()
+    if closing == "]":
+        filled = textwrap.wrap(f"{inner},", WIDTH - len(indent) - 4)
+    else:
+        filled = [f"{part}," for part in re.split(r", (?![^{]*\})", inner)]
+    return [opening, *(f"{indent}    {text}" for text in filled), f"{indent}{closing}"]
 
 
 def conversions(s, model):
@@ -50,7 +55,11 @@ def conversions(s, model):
     array = f"[f32; {len(paths)}]"
     yield f"impl From<{array}> for {s.name} {{"
     yield "    #[inline]"
-    yield f"    fn from([{', '.join(names)}]: {array}) -> Self {{"
+    head = f"    fn from([{', '.join(names)}]: {array}) -> Self {{"
+    if len(head) > WIDTH:
+        # More names than a line has room for: the array by its places.
+        head, names = f"    fn from(floats: {array}) -> Self {{", [f"floats[{i}]" for i in range(len(paths))]
+    yield head
     yield from fitted(f"        {made(s.name, iter(names), model)}")
     yield from ["    }", "}", ""]
     yield f"impl From<{s.name}> for {array} {{"
@@ -125,14 +134,15 @@ def answers_file(model):
     yield from origin("crates/c_answers/src/lib.rt and crates/c_hatch/src/answer.rt")
     yield ""
     yield "use crate::refusal::{Refusal, RefusalAt};"
-    yield "use crate::shapes::{Aabb2, Vec2};"
+    answers = [s for s in model.structs.values() if s.is_answer]
+    shapes = sorted({f.type.name for s in answers for f in s.fields} & set(model.structs))
+    yield f"use crate::shapes::{{{', '.join(shapes)}}};"
     yield ""
     yield "/// The status of an answer."
     yield "pub const ANSWERED: u32 = 0;"
     yield ""
     yield "/// The status where there is none of what was asked for. Any other number is a refusal."
     yield "pub const NONE: u32 = 255;"
-    answers = [s for s in model.structs.values() if s.is_answer]
     for s in answers:
         if len(s.answered) > 1:
             floats = any(t == "f32" for _, t in model.scalars(s.name))

@@ -1,7 +1,10 @@
 // Answers as C sees them. The status is 0 where there is an answer, 255 where there is none, and a refusal's number otherwise;
 // what is not answered is zero, and so is a place that is not told.
 use types::Aabb2;
+use types::Aabb3;
 use types::Boxed;
+use types::Boxed3;
+use types::Corner;
 use types::Extent;
 use types::Image;
 use types::Interval;
@@ -10,9 +13,11 @@ use types::Listed;
 use types::Nearest;
 use types::Pixels;
 use types::Vec2;
+use types::Vec3;
+use types::Verdict;
 use types::Widened;
 ghost use mathlib.Core.Path.{_≡_};
-ghost use Rattle.c_answers.specs.Answers.{ofExtent, ofLength, ofImage, ofNearest, ofBoxed, ofInterval, ofPixels, ofListed, ofWidened};
+ghost use Rattle.c_answers.specs.Answers.{ofExtent, ofLength, ofImage, ofNearest, ofCorner, ofBoxed, ofBoxed3, ofVerdict, ofInterval, ofPixels, ofListed, ofWidened};
 
 // A number.
 #[repr(C)]
@@ -28,11 +33,32 @@ pub struct PointAnswer {
     pub value: Vec2,
 }
 
+// A point of space.
+#[repr(C)]
+pub struct Point3Answer {
+    pub status: u32,
+    pub value: Vec3,
+}
+
 // An upright box.
 #[repr(C)]
 pub struct BoxAnswer {
     pub status: u32,
     pub value: Aabb2,
+}
+
+// An upright box of space.
+#[repr(C)]
+pub struct Box3Answer {
+    pub status: u32,
+    pub value: Aabb3,
+}
+
+// Yes or no.
+#[repr(C)]
+pub struct BoolAnswer {
+    pub status: u32,
+    pub value: bool,
 }
 
 // The stretch of a line or a ray in a box, by the parameters t of its two ends: the points origin + t * direction.
@@ -127,6 +153,53 @@ pub fn boxed(a: Boxed) -> BoxAnswer
                 max_x: 0.0,
                 max_y: 0.0,
             },
+        },
+    }
+}
+
+pub fn corner(a: Corner) -> Point3Answer
+    ensures { λ r. ⌜ r ≡ ofCorner a ⌝ }
+{
+    match a {
+        Corner::Some(value) => Point3Answer { status: 0, value },
+        Corner::Refused(status) => Point3Answer {
+            status,
+            value: Vec3 {
+                x: 0.0,
+                y: 0.0,
+                z: 0.0,
+            },
+        },
+    }
+}
+
+pub fn boxed3(a: Boxed3) -> Box3Answer
+    ensures { λ r. ⌜ r ≡ ofBoxed3 a ⌝ }
+{
+    match a {
+        Boxed3::Some(value) => Box3Answer { status: 0, value },
+        Boxed3::Refused(status) => Box3Answer {
+            status,
+            value: Aabb3 {
+                min_x: 0.0,
+                min_y: 0.0,
+                min_z: 0.0,
+                max_x: 0.0,
+                max_y: 0.0,
+                max_z: 0.0,
+            },
+        },
+    }
+}
+
+pub fn verdict(a: Verdict) -> BoolAnswer
+    ensures { λ r. ⌜ r ≡ ofVerdict a ⌝ }
+{
+    match a {
+        Verdict::Some(value) => BoolAnswer { status: 0, value },
+        Verdict::Refused(status) => BoolAnswer {
+            status,
+            value: false,
         },
     }
 }

@@ -5,9 +5,20 @@ use std::{env, fs, path::Path};
 /// Names the folder of the Rust's source files.
 const FOLDER: &str = "DEL_GEO_CORE";
 
-/// The 2D part, and what it mentions of the rest.
-const MODULES: [&str; 9] =
-    ["aabb", "aabb2", "edge2", "mat3_col_major", "obb2", "range", "tri2", "vec2", "vec3"];
+/// The 2D part and the boxes of space, and what they mention of the rest.
+const MODULES: [&str; 11] = [
+    "aabb",
+    "aabb2",
+    "aabb3",
+    "edge2",
+    "mat3_col_major",
+    "obb2",
+    "obb3",
+    "range",
+    "tri2",
+    "vec2",
+    "vec3",
+];
 
 fn main() {
     println!("cargo::rerun-if-env-changed={FOLDER}");

@@ -3,8 +3,8 @@
 /// A refusal; its place is 0 where it tells none.
 pub use hatch_list::Refused;
 
-/// The most numbers that an answer has: a 3 by 3 matrix.
-pub const MOST_VALUES: usize = 9;
+/// The most numbers that an answer has: the corners of a turned box of space.
+pub const MOST_VALUES: usize = 24;
 
 /// The status of an answer that is none.
 const NONE: u32 = 255;

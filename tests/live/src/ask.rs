@@ -175,6 +175,10 @@ impl Routine {
         unsafe { CStr::from_ptr(self.gives) }.to_bytes()
     }
 
+    pub fn has_list(&self) -> bool {
+        self.list().is_some()
+    }
+
     /// The letter of the list that is lent to it.
     fn list(&self) -> Option<&u8> {
         unsafe { CStr::from_ptr(self.lists) }.to_bytes().first()

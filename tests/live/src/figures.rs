@@ -1,7 +1,7 @@
 //! The figures with known results, put to the Rust and to the library.
 
 use crate::ask::{self, Args};
-use crate::inputs::mirror;
+use crate::inputs::{axes, mirror};
 use crate::pairs::{Pair, pair};
 
 const TABLE: &str = include_str!("../../figures.txt");
@@ -11,7 +11,7 @@ pub struct Figure {
     pub answer: String,
 }
 
-/// The table's rows, then the falling twins, in x and in y, of its hatch lines, rays and strokes. No row comes twice.
+/// The table's rows, then the falling twins, in each axis, of its hatch lines, rays and strokes. No row comes twice.
 pub fn all() -> Result<Vec<Figure>, String> {
     let lines = TABLE.lines().filter(|line| !line.starts_with('#'));
     let mut figures: Vec<_> = lines.map(figure).collect::<Result<_, _>>()?;
@@ -33,12 +33,14 @@ fn figure(line: &str) -> Result<Figure, String> {
 fn twins(figure: &Figure) -> Result<Vec<Figure>, String> {
     let (pair, args) = parse(&figure.request)?;
     let mut twins = Vec::new();
-    for axis in [0, 1] {
+    for axis in axes(pair.row.shape) {
         let mut twin = args.clone();
         mirror(pair.row.shape, axis, &mut twin.floats);
         let answer = match pair.row.name {
             // Lines and their box are mirrored: the parameters of their ends stay.
-            "aabb.line" | "aabb.lines" | "aabb.ray" => figure.answer.clone(),
+            "aabb.line" | "aabb.lines" | "aabb.ray" | "aabb_3.line" | "aabb_3.ray" => {
+                figure.answer.clone()
+            }
             // A stroke is mirrored within its bounds: other pixels, which the Rust tells.
             "edge2.overlapping_pixels_dda" => pair.rust_line(&twin)?,
             _ => continue,

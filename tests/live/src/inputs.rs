@@ -1,5 +1,6 @@
 //! Random inputs for a routine, the same ones for the same seed.
 
+mod edges;
 mod file;
 mod floats;
 mod kinds;
@@ -9,39 +10,38 @@ mod touch;
 mod wholes;
 
 pub use file::{damage, hatch_list};
-pub use kinds::{Kind, mirror};
+pub use kinds::{Kind, axes, mirror};
 
 use crate::ask::Args;
 use crate::judge::Row;
 use crate::random::Random;
 use source::Source;
+use std::ops::Range;
 
 pub struct Inputs {
     row: &'static Row,
     random: Random,
     args: Args,
-    /// The mirror images of the present input that are still to come.
-    twins: u32,
+    /// The axes in which the present input is still to be mirrored.
+    axes: Range<usize>,
 }
 
 impl Inputs {
     pub fn new(row: &'static Row, seed: u64) -> Self {
-        Inputs { row, random: Random::new(seed, row.name), args: Args::default(), twins: 0 }
+        Inputs { row, random: Random::new(seed, row.name), args: Args::default(), axes: 0..0 }
     }
 
-    /// The next input. A figure is followed by its two mirror images: a rising line by a falling one.
+    /// The next input. A figure is followed by its mirror image in each axis: a rising line by a falling one.
     pub fn next(&mut self) -> &Args {
         loop {
-            match self.twins {
-                0 => self.make(),
-                1 => {
-                    self.mirror(0);
-                    self.mirror(1);
-                    self.twins = 0;
-                }
-                _ => {
-                    self.mirror(0);
-                    self.twins = 1;
+            match self.axes.next() {
+                None => self.make(),
+                Some(axis) => {
+                    // The image before is mirrored back first.
+                    if axis > 0 {
+                        self.mirror(axis - 1);
+                    }
+                    self.mirror(axis);
                 }
             }
             if (self.row.domain)(&self.args) {
@@ -74,8 +74,7 @@ impl Inputs {
         if self.random.one_in(4) {
             touch::touch(self.row.shape, &mut self.args.floats, &mut self.random);
         }
-        let figure = self.row.shape.iter().any(|kind| kind.is_figure());
-        self.twins = if source.is_grid() && figure { 2 } else { 0 };
+        self.axes = if source.is_grid() { axes(self.row.shape) } else { 0..0 };
     }
 
     fn mirror(&mut self, axis: usize) {

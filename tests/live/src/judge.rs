@@ -2,12 +2,15 @@
 
 mod aabb;
 mod aabb2;
+mod aabb3;
+mod aabb_3;
 mod edge2;
 mod f32;
 mod hatch;
 mod limits;
 mod mat3;
 mod obb2;
+mod obb3;
 mod panics;
 mod range;
 mod root;
@@ -68,6 +71,9 @@ pub fn all() -> impl Iterator<Item = &'static Row> {
         aabb::ROWS,
         aabb2::ROWS,
         obb2::ROWS,
+        aabb_3::ROWS,
+        aabb3::ROWS,
+        obb3::ROWS,
         hatch::ROWS,
     ];
     modules.into_iter().flatten()

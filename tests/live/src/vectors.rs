@@ -30,7 +30,8 @@ fn print(pair: &Pair, seed: u64, count: usize) -> Result<(), String> {
         let request = pair.routine.request(args);
         let row = format!("{request} = {}", pair.rust_line(args)?);
         // A long list says no more than a short one, and a row should fit a screen.
-        if row.len() < 300 && printed.insert(request) {
+        let fits = row.len() < 300 || !pair.routine.has_list();
+        if fits && printed.insert(request) {
             println!("{row}");
         }
     }

@@ -5,6 +5,7 @@ mod face;
 mod file;
 mod nearest;
 mod root;
+mod space;
 mod strokes;
 mod tiles;
 mod turned;
@@ -21,6 +22,7 @@ pub fn compared() -> Vec<Case> {
         strokes::cases(),
         tiles::cases(),
         turned::cases(),
+        space::cases(),
         nearest::cases(),
         root::cases(),
         file::cases(),

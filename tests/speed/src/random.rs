@@ -5,7 +5,7 @@
 #[path = "../../live/src/random.rs"]
 mod numbers;
 
-use bagnoszyk::shapes::Vec2;
+use bagnoszyk::shapes::{Vec2, Vec3};
 pub use numbers::Random;
 
 /// A number from low to high, in steps of 1/64.
@@ -16,4 +16,9 @@ pub fn between(random: &mut Random, low: i64, high: i64) -> f32 {
 pub fn point(random: &mut Random, low: i64, high: i64) -> Vec2 {
     let x = between(random, low, high);
     Vec2 { x, y: between(random, low, high) }
+}
+
+pub fn point3(random: &mut Random, low: i64, high: i64) -> Vec3 {
+    let Vec2 { x, y } = point(random, low, high);
+    Vec3 { x, y, z: between(random, low, high) }
 }

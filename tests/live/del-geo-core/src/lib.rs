@@ -4,6 +4,6 @@
 #![allow(warnings)]
 
 mod stubs;
-use stubs::{mat2_col_major, mat3_row_major, mat3_sym, mat4_col_major};
+use stubs::{edge3, mat2_col_major, mat3_row_major, mat3_sym, mat4_col_major};
 
 include!(concat!(env!("OUT_DIR"), "/modules.rs"));

@@ -1,4 +1,9 @@
-//! The names that the Rust takes from modules that are not among its given files. Nothing here is called.
+//! The names that the Rust takes from modules that are not among its given files, and from edge3.rs, which calls a function that it does
+//! not have. Nothing here is called.
+
+pub mod edge3 {
+    pub trait Edge3Trait<T> {}
+}
 
 pub mod mat2_col_major {
     pub trait Mat2ColMajor<T> {

@@ -1,4 +1,6 @@
-//! The kinds of arguments: what a routine's floats and whole numbers stand for.
+//! The kinds of arguments: what a routine's floats and whole numbers stand for. Those of space end in 3.
+
+use std::ops::Range;
 
 #[derive(Clone, Copy, PartialEq)]
 pub enum Kind {
@@ -12,12 +14,20 @@ pub enum Kind {
     Box,
     /// Centre and two half edges.
     TurnedBox,
+    Point3,
+    Direction3,
+    /// Low corner, high corner.
+    Box3,
+    /// Centre and three half edges.
+    TurnedBox3,
     /// A 3 by 3 matrix in column-major order.
     Matrix,
     /// A side of an image.
     Side,
     /// The place of a box in a list.
     Index,
+    /// The number of a corner of a box of space.
+    Corner,
     /// A list of floats.
     Floats,
     /// Room, and a list of lines: point and direction of each.
@@ -42,9 +52,11 @@ impl Kind {
             Kind::Float | Kind::Radius => "f",
             Kind::Range | Kind::Point | Kind::Direction => "ff",
             Kind::Box => "ffff",
-            Kind::TurnedBox => "ffffff",
+            Kind::TurnedBox | Kind::Box3 => "ffffff",
+            Kind::Point3 | Kind::Direction3 => "fff",
+            Kind::TurnedBox3 => "ffffffffffff",
             Kind::Matrix => "fffffffff",
-            Kind::Side | Kind::Index => "u",
+            Kind::Side | Kind::Index | Kind::Corner => "u",
             Kind::Floats => "F",
             Kind::Lines | Kind::Records => "rF",
             Kind::Stroke => "uuffffr",
@@ -60,30 +72,36 @@ impl Kind {
         (!letters.contains('F')).then(|| letters.matches('f').count())
     }
 
-    /// Whether it stands in the plane and has a mirror image.
-    pub fn is_figure(self) -> bool {
+    /// The dimensions that it stands in, with a mirror image in each: 2 in the plane, 3 in space, 0 if it is no figure.
+    fn dimensions(self) -> usize {
         use Kind::*;
-        matches!(self, Point | Direction | Box | TurnedBox | Lines | Stroke | Tiles)
+        match self {
+            Point | Direction | Box | TurnedBox | Lines | Stroke | Tiles => 2,
+            Point3 | Direction3 | Box3 | TurnedBox3 => 3,
+            _ => 0,
+        }
     }
 
-    /// Mirrors its floats in x (axis 0) or in y (axis 1).
+    /// Mirrors its floats in x (axis 0), y (axis 1) or z (axis 2).
     fn mirror(self, axis: usize, floats: &mut [f32]) {
-        let negate =
-            |floats: &mut [f32]| floats.iter_mut().skip(axis).step_by(2).for_each(|x| *x = -*x);
-        match self {
-            Kind::Point | Kind::Direction | Kind::TurnedBox | Kind::Lines => negate(floats),
-            Kind::Box | Kind::Tiles => {
-                negate(floats);
-                floats.swap(axis, axis + 2);
-            }
-            // Within its own bounding box, so that it stays in the image.
-            Kind::Stroke => floats.swap(axis, axis + 2),
-            _ => {}
+        use Kind::*;
+        let dimensions = self.dimensions();
+        // A stroke is mirrored within its own bounding box, so that it stays in the image.
+        if dimensions != 0 && self != Stroke {
+            floats.iter_mut().skip(axis).step_by(dimensions).for_each(|x| *x = -*x);
+        }
+        if matches!(self, Box | Box3 | Tiles | Stroke) {
+            floats.swap(axis, axis + dimensions);
         }
     }
 }
 
-/// Mirrors the floats of an input in x (axis 0) or in y (axis 1). Twice gives them back.
+/// The axes in which an input has mirror images: those of its figures.
+pub fn axes(shape: &[Kind]) -> Range<usize> {
+    0..shape.iter().map(|kind| kind.dimensions()).max().unwrap_or(0)
+}
+
+/// Mirrors the floats of an input in one of its axes. Twice gives them back.
 pub fn mirror(shape: &[Kind], axis: usize, mut floats: &mut [f32]) {
     for kind in shape {
         let count = kind.floats().unwrap_or(floats.len());

@@ -1,6 +1,7 @@
 //! Making an argument of a kind.
 
 use super::Kind;
+use super::edges;
 use super::file;
 use super::source::Source;
 use super::wholes;
@@ -45,8 +46,15 @@ fn arrange(kind: Kind, floats: &mut [f32], random: &mut Random) {
             put_in_order(floats, 0, 2, random);
             put_in_order(floats, 1, 3, random);
         }
+        Kind::Box3 => (0..3).for_each(|i| put_in_order(floats, i, i + 3, random)),
         Kind::Direction if random.one_in(4) => {
             floats[random.below(2) as usize] = random.pick(&[0.0, -0.0]);
+        }
+        // Along a face or an edge of a box, or no direction at all.
+        Kind::Direction3 => {
+            for x in floats.iter_mut().filter(|_| random.one_in(5)) {
+                *x = if *x < 0.0 { -0.0 } else { 0.0 };
+            }
         }
         Kind::Lines => {
             for [_, _, direction @ ..] in floats.as_chunks_mut::<4>().0 {
@@ -64,6 +72,7 @@ fn arrange(kind: Kind, floats: &mut [f32], random: &mut Random) {
                 _ => [floats[4], floats[5]] = [-floats[3] * ratio, floats[2] * ratio],
             }
         }
+        Kind::TurnedBox3 => edges::arrange(&mut floats[3..], random),
         // An affine transform has the last row 0 0 1. With 0 0 0 no point has an image.
         Kind::Matrix if random.one_in(2) => {
             let corner = random.pick(&[1.0, 1.0, 1.0, 0.0]);
@@ -86,6 +95,7 @@ fn add_wholes(kind: Kind, floats: &[f32], random: &mut Random, numbers: &mut Vec
     match kind {
         Kind::Side => numbers.push(side(random)),
         Kind::Index => numbers.push(wholes::any(6, random)),
+        Kind::Corner => numbers.push(wholes::any(10, random)),
         Kind::Lines => numbers.push(room_for(floats.len() as u64 / 4 * 3, random)),
         Kind::Stroke => numbers.extend([side(random), side(random), room(random)]),
         Kind::Tiles => {

@@ -13,7 +13,7 @@ pub enum Source {
 
 impl Source {
     pub fn random(random: &mut Random) -> Self {
-        // A figure on a grid comes three times, with its mirror images.
+        // A figure on a grid comes with its mirror images.
         if !random.one_in(4) {
             return Source::Wild;
         }
@@ -31,7 +31,7 @@ impl Source {
     pub fn float(self, made: &[f32], random: &mut Random) -> f32 {
         match self {
             Source::Grid { parts, most } => match (random.below(16), made) {
-                // In line with the point before.
+                // In the plane, in line with the point before.
                 (0 | 1, [.., x, _]) => *x,
                 (2, _) => floats::neighbour(random.around_zero(most) as f32 / parts, random),
                 _ => random.around_zero(most) as f32 / parts,

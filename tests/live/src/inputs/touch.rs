@@ -1,14 +1,21 @@
 //! Boxes that touch, and boxes one ulp off.
 
+mod space;
+
 use super::Kind;
 use super::floats::neighbour;
 use crate::random::Random;
 
-/// Moves the second of two boxes to an edge of the first. Other arguments stay as they are.
+/// Puts the second of two boxes beside the first, and in space a point or a line on a face of the box. Other arguments stay as they are.
 pub fn touch(shape: &[Kind], floats: &mut [f32], random: &mut Random) {
     match shape {
         [Kind::TurnedBox, Kind::TurnedBox] => beside(floats, random),
         [Kind::TurnedBox, Kind::Box] => upright_beside(floats, random),
+        [Kind::TurnedBox3, Kind::TurnedBox3] => space::turned_boxes(floats, random),
+        [Kind::TurnedBox3, Kind::Point3, ..] => space::point_of_turned_box(floats, random),
+        [Kind::Box3, Kind::Box3, ..] => space::boxes(floats, random),
+        [Kind::Box3, Kind::Point3, Kind::Direction3] => space::line_through_box(floats, random),
+        [Kind::Box3, Kind::Point3, ..] => space::point_of_box(floats, random),
         _ => {}
     }
 }

@@ -1,8 +1,8 @@
 //! The refusals of documents 01 and 02: the numbers, and the checks at the limits, in their order.
 //!
 //! The Rust makes none of these checks. Without them it hangs, or it answers where a refusal is due.
-//! Where the table follows the Rust's panics (5 to 9), a row of the judge says which number a panic
-//! has.
+//! Where the table follows the Rust's panics (5 to 9, 16 and 17), a row of the judge says which number
+//! a panic has.
 
 use crate::answer::Refused;
 
@@ -17,6 +17,8 @@ pub const NO_IMAGE: u32 = 8;
 pub const INDEX: u32 = 9;
 pub const LINES: u32 = 14;
 pub const NOT_FINITE: u32 = 15;
+pub const NAN_PROJECTION: u32 = 16;
+pub const CORNER: u32 = 17;
 
 /// The largest side of an image or of a sheet.
 const SIDE: u64 = 16_384;

@@ -2,10 +2,12 @@
 //!
 //! None of these may be inlined: a call into the library is not.
 
-use bagnoszyk::answers::{ANSWERED, CountAnswer, IntervalAnswer, NONE, PointAnswer, ReadAnswer};
-use bagnoszyk::shapes::{Aabb2, Obb2, OnEdge, SqrtDigits, Vec2};
+use bagnoszyk::answers::{
+    ANSWERED, BoolAnswer, CountAnswer, IntervalAnswer, NONE, PointAnswer, ReadAnswer,
+};
+use bagnoszyk::shapes::{Aabb2, Aabb3, Obb2, Obb3, OnEdge, SqrtDigits, Vec2, Vec3};
 use del_geo_core::obb2::OBB2Trait;
-use del_geo_core::{aabb, aabb2, edge2};
+use del_geo_core::{aabb, aabb2, edge2, obb3};
 
 #[inline(never)]
 pub extern "C" fn intersections_against_line(
@@ -14,7 +16,23 @@ pub extern "C" fn intersections_against_line(
     direction: Vec2,
 ) -> IntervalAnswer {
     let (b, origin, direction) = (b.into(), origin.into(), direction.into());
-    match aabb::intersections_against_line::<f32, 2, 4>(&b, &origin, &direction) {
+    interval(aabb::intersections_against_line::<f32, 2, 4>(&b, &origin, &direction))
+}
+
+/// The same in space.
+#[inline(never)]
+pub extern "C" fn intersections_against_line3(
+    b: Aabb3,
+    origin: Vec3,
+    direction: Vec3,
+) -> IntervalAnswer {
+    let (b, origin, direction) = (b.into(), origin.into(), direction.into());
+    interval(aabb::intersections_against_line::<f32, 3, 6>(&b, &origin, &direction))
+}
+
+#[inline(always)]
+fn interval(hit: Option<(f32, f32)>) -> IntervalAnswer {
+    match hit {
         Some((tmin, tmax)) => IntervalAnswer { status: ANSWERED, tmin, tmax },
         None => IntervalAnswer { status: NONE, tmin: 0.0, tmax: 0.0 },
     }
@@ -85,6 +103,13 @@ pub extern "C" fn is_intersect_obb2(a: Obb2, b: Obb2) -> bool {
 #[inline(never)]
 pub extern "C" fn is_intersect_aabb2(o: Obb2, b: Aabb2) -> bool {
     <[f32; 6]>::from(o).is_intersect_aabb2(&b.into())
+}
+
+/// No projection may be a NaN: the Rust would panic.
+#[inline(never)]
+pub extern "C" fn is_intersect_to_obb3(a: Obb3, b: Obb3) -> BoolAnswer {
+    let value = obb3::is_intersect_to_obb3::<f32>(&a.into(), &b.into());
+    BoolAnswer { status: ANSWERED, value }
 }
 
 #[inline(never)]
