@@ -8,7 +8,7 @@ use Rattle.types.specs.declared.shape.Aabb3.{Aabb3}
 abbrev pub isActiveOf : Aabb3 → Bool
 isActiveOf b = le (b .«min_x») (b .«max_x»)
 
--- outside is what is below a low end or above a high one, which no NaN is: so a NaN is inside
+-- outside is what is below a low end or above a high one in some dimension; a NaN is neither
 abbrev pub isContainOf : Aabb3 → Vec3 → Bool
 isContainOf b p =
     not

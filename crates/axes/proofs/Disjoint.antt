@@ -5,6 +5,7 @@ use mathlib.Core.Logic.{_⊎_, inl, inr, _↔_}
 use mathlib.Core.Bool.{Bool, true, false, not, _||_, true≢false}
 use mathlib.Core.List.{List, [], _∷_, List·Memᴰ, List·Memᴰ·head, List·Memᴰ·tail, List·Memᴰ·cases-cons, List·Memᴰ·not-nil}
 use lib.Ieee.{Float, nan, inf, fin, lt, isNan}
+use borrow.Author.Tests.{not-false}
 use Rattle.axes.specs.Axes.{rangeOf, apartOf, some, projections, separates, meets}
 use Rattle.axes.specs.Disjoint.{+∞, -∞, NumberOf, NumberOfOr, Below, NumbersDecide, SeparatesIfDisjoint, SeparatingAxis}
 use Rattle.axes.proofs.Ends.{range-ends}
@@ -66,10 +67,6 @@ or-true : (a b : Bool) → (a ≡ true) ⊎ (b ≡ true) → (a || b) ≡ true
 or-true true b h = refl
 or-true false b (inl e) = absurd (true≢false (sym e))
 or-true false b (inr e) = e
-
-not-false : (a : Bool) → not a ≡ false → a ≡ true
-not-false true h = refl
-not-false false h = absurd (true≢false h)
 
 module _ {A : Type 0} (f : A → Bool) where
   pub some-is : (xs : List A) → some f xs ≡ true → (x : A) × List·Memᴰ x xs × (f x ≡ true)

@@ -17,18 +17,18 @@ use Rattle.axes.proofs.Disjoint.{either, some-is, is-some, separates-if
 
 -- ---- a test that cannot hold, or cannot fail
 
-not-true : (b : Bool) → (b ≡ true → ⊥) → b ≡ false
-not-true true h = absurd (h refl)
-not-true false h = refl
+cannot-hold : (b : Bool) → (b ≡ true → ⊥) → b ≡ false
+cannot-hold true h = absurd (h refl)
+cannot-hold false h = refl
 
-not-false : (b : Bool) → (b ≡ false → ⊥) → b ≡ true
-not-false true h = refl
-not-false false h = absurd (h refl)
+cannot-fail : (b : Bool) → (b ≡ false → ⊥) → b ≡ true
+cannot-fail true h = refl
+cannot-fail false h = absurd (h refl)
 
 -- ---- numbers
 
 numbers : (xs : List Float) → some isNan xs ≡ false → Numbers xs
-numbers xs h x m = not-true (isNan x) (λ e. true≢false (sym (is-some isNan xs x m e) ∙ h))
+numbers xs h x m = cannot-hold (isNan x) (λ e. true≢false (sym (is-some isNan xs x m e) ∙ h))
 
 no-numbers : (xs : List Float) → some isNan xs ≡ true → Numbers xs → ⊥
 no-numbers xs h n = let r = some-is isNan xs h in true≢false (sym (r .2) ∙ n (r .0) (r .1))
@@ -48,12 +48,12 @@ module _ {P : Type 0} (dot : P → P → Float) (ps qs : List P) where
       elim (either (some isNan xs) (some isNan ys) h) [ inl e ↦ no-numbers xs e (d .0) | inr e ↦ no-numbers ys e (d .1) ]
 
   all-numbers : (axis : P) → Defined dot ps qs axis → undefinedOn dot ps qs axis ≡ false
-  all-numbers axis d = not-true (undefinedOn dot ps qs axis) (λ e. not-defined axis e d)
+  all-numbers axis d = cannot-hold (undefinedOn dot ps qs axis) (λ e. not-defined axis e d)
 
   -- both tests fail on an axis that is passed, and only there
   passed-tests : (axis : P) → Passed dot ps qs axis → (undefinedOn dot ps qs axis ≡ false) × (separates dot ps qs axis ≡ false)
   passed-tests axis p =
-      (all-numbers axis (p .0), not-true (separates dot ps qs axis) (λ e. p .1 (separates-if-disjoint dot ps qs axis .0 e)))
+      (all-numbers axis (p .0), cannot-hold (separates dot ps qs axis) (λ e. p .1 (separates-if-disjoint dot ps qs axis .0 e)))
 
   tests-passed : (axis : P) → undefinedOn dot ps qs axis ≡ false → separates dot ps qs axis ≡ false → Passed dot ps qs axis
   tests-passed axis u t = (defined axis u, λ d. true≢false (sym (separates-if-disjoint dot ps qs axis .1 d) ∙ t))
@@ -92,7 +92,7 @@ module _ {P : Type 0} (dot : P → P → Float) (ps qs : List P) where
       rw (
         r .stands,
         skipped (r .before) (axis ∷ r .after) (r .passed),
-        not-false (undefinedOn dot ps qs axis) (λ e. d (defined axis e)),
+        cannot-fail (undefinedOn dot ps qs axis) (λ e. d (defined axis e)),
       )
 
   -- ---- one of them holds

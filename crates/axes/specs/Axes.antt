@@ -38,6 +38,7 @@ abbrev pub next : Place → Place
 next None = None
 next (At j) = At (suc j)
 
+-- a refusal is not a yes
 unfoldable pub isYesOf : Verdict → Bool
 isYesOf (Some b) = b
 isYesOf (Refused n) = false
