@@ -12,14 +12,14 @@ use borrow.Author.Tests.{ltb-true, ltb-false, lt-ltb, le-ltb}
 
 -- ---- signed sizes
 
-ltb-scaled : (a b k : ℕ) → 0 < k → ltb a b ≡ ltb (a * k) (b * k)
+pub ltb-scaled : (a b k : ℕ) → 0 < k → ltb a b ≡ ltb (a * k) (b * k)
 ltb-scaled a b k h = go (ltb a b) refl
   where
     go : (t : Bool) → ltb a b ≡ t → t ≡ ltb (a * k) (b * k)
     go true e = sym (lt-ltb (a * k) (b * k) (mul-lt-mul-of-pos-right (ltb-true a b e) h))
     go false e = sym (le-ltb (a * k) (b * k) (mul-le-mul-right k (ltb-false a b e)))
 
-below-scaled : (s : Bool) (a : ℕ) (t : Bool) (b k : ℕ) → 0 < k → below s a t b ≡ below s (a * k) t (b * k)
+pub below-scaled : (s : Bool) (a : ℕ) (t : Bool) (b k : ℕ) → 0 < k → below s a t b ≡ below s (a * k) t (b * k)
 below-scaled false a false b k h = ltb-scaled a b k h
 below-scaled false a true b k h = refl
 below-scaled true a false b k h = ltb-scaled 0 (a + b) k h ∙ ap (λ (n : ℕ). ltb (0 * k) n) (add-mul a b k) ∙ ap (λ (n : ℕ). ltb n (a * k + b * k)) (zero-mul k)

@@ -75,7 +75,7 @@ at-least : (r C R : ℕ) → R ≡ r * C → 0 < R → C ≤ R
 at-least zero C R e h = absurd (omega (arith, zero-mul C))
 at-least (suc r) C R e h = omega (arith, suc-mul r C)
 
-sub-mul : (a b c : ℕ) → (a - b) * c ≡ a * c - b * c
+pub sub-mul : (a b c : ℕ) → (a - b) * c ≡ a * c - b * c
 sub-mul a b c = mul-comm (a - b) c ∙ mul-sub c a b ∙ omega (arith, mul-comm c a, mul-comm c b)
 
 -- P / E and Q / D are whole multiples of 1 / U, and so is their sum or difference R / (D * E)

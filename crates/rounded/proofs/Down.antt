@@ -17,7 +17,7 @@ use lib.Ieee.Back.{round-whole}
 use Rattle.float.specs.Rounded.{_⊕_, +0}
 use Rattle.float.proofs.Units.{in-units}
 use Rattle.rounded.specs.Size.{Size}
-use Rattle.rounded.proofs.Round.{Mag, round-mag-neg}
+use Rattle.rounded.proofs.Round.{Mag, round-mag}
 use Rattle.rounded.proofs.Step.{base, Past, unit}
 use Rattle.rounded.proofs.Apart.{NonZero, nonzero-round}
 
@@ -76,24 +76,21 @@ left-exact n c M D (fin false m e) P l h v =
     ) in
     lt-of-mul-lt-mul-right D g
 
--- an f32 of at least one, less one, is an f32
-exact :
-    (m : ℕ) (e : ℤ) →
-    T (fits binary32 (fin false m e)) →
-    m * up e ≤ 8388608 * down e →
-    HasValue (round binary32 false (m * up e - down e) (down e)) false (m * up e - down e) (down e)
-exact m (pos k) f h = round-whole binary32 false (m * 2 ^ k - 1) (omega arith)
-exact m (negsuc k) f h = elim (decLe (suc k) 149) [
+-- what is no larger than an f32 is one too, over the same denominator
+pub exact :
+    (s t : Bool) (m : ℕ) (e : ℤ) (r : ℕ) → T (fits binary32 (fin t m e)) → m * up e ≤ 8388608 * down e → r ≤ m * up e →
+    HasValue (round binary32 s r (down e)) s r (down e)
+exact s t m (pos k) r f h b = round-whole binary32 s r (omega arith)
+exact s t m (negsuc k) r f h b = elim (decLe (suc k) 149) [
   | yes l ↦
       let D = 2 ^ suc k in
-      let q = m * 1 - D in
       let j = 149 - suc k in
-      let few : q < 2 ^ 24 = omega (arith, in-units false m (negsuc k) f .few, mul-one m) in
+      let few : r < 2 ^ 24 = omega (arith, in-units t m (negsuc k) f .few, mul-one m) in
       let z : j + suc k ≡ 149 = omega arith in
       let y : 24 + j ≤ 277 = omega arith in
-      round-exact binary32 false q D q j (pow-pos (suc k)) few (lt-of-lt-of-le (shl-lt 24 j few) (pow-le-pow-right (lit< tt) y))
-      (sym (mul-assoc q (2 ^ j) D ∙ ap (λ (i : ℕ). q * i) (sym (pow-add 2 j (suc k)) ∙ ap (λ (i : ℕ). 2 ^ i) z)))
-  | no l ↦ absurd (lt-irrefl (2 ^ 149) (lt-of-lt-of-le (pow-lt (let i : 149 < suc k = omega arith in i)) (in-units false m (negsuc k) f .fine)))
+      round-exact binary32 s r D r j (pow-pos (suc k)) few (lt-of-lt-of-le (shl-lt 24 j few) (pow-le-pow-right (lit< tt) y))
+      (sym (mul-assoc r (2 ^ j) D ∙ ap (λ (i : ℕ). r * i) (sym (pow-add 2 j (suc k)) ∙ ap (λ (i : ℕ). 2 ^ i) z)))
+  | no l ↦ absurd (lt-irrefl (2 ^ 149) (lt-of-lt-of-le (pow-lt (let i : 149 < suc k = omega arith in i)) (in-units t m (negsuc k) f .fine)))
 ]
 
 after-negative : (n c m : ℕ) (e : ℤ) → m * up e ≤ 8388608 * down e → c ≤ n → Left n c (fin true m e ⊕ unit true)
@@ -103,7 +100,7 @@ after-negative n c m e h l =
     let M = m * up e in
     simp (mul-one, one-mul)
     (left-negative n c 8388609 (round binary32 true (M + D) D) l
-    (round-mag-neg (M + D) D 0 8388609 (down-pos e) (omega (arith, zero-mul D)) (omega arith) (lit≤ tt))
+    (round-mag true (M + D) D 0 8388609 (down-pos e) (omega (arith, zero-mul D)) (omega arith) (lit≤ tt))
     (nonzero-round true (M + D) D (down-pos e) (grown M D (2 ^ 149) (pow-pos 149))))
   where
     grown : (M D U : ℕ) → 0 < U → D ≤ (M + D) * U
@@ -125,12 +122,12 @@ after-positive n c m e f h l g = simp (mul-one, one-mul) (go (ltb (m * up e) (do
     go true q =
         let k = ltb-true M D (sym q) in
         left-negative n (suc c) 1 (round binary32 true (D - M) D) l
-        (round-mag-neg (D - M) D 0 1 (down-pos e) (omega (arith, zero-mul D)) (omega arith) (lit≤ tt))
+        (round-mag true (D - M) D 0 1 (down-pos e) (omega (arith, zero-mul D)) (omega arith) (lit≤ tt))
         (nonzero-round true (D - M) D (down-pos e) (enough (D - M) D (2 ^ 149) (omega arith) (in-units false m e f .fine)))
       where
         enough : (A D U : ℕ) → 0 < A → D ≤ U → D ≤ A * U
         enough (suc A) D U p h = omega (arith, suc-mul A U)
-    go false q = left-exact n c M D (round binary32 false (M - D) D) (down-pos e) (ltb-false M D (sym q)) g (exact m e f h)
+    go false q = left-exact n c M D (round binary32 false (M - D) D) (down-pos e) (ltb-false M D (sym q)) g (exact false false m e (M - D) f h (omega arith))
 
 -- one step down from a place of the side, and from any place
 pub back-on : (n c : ℕ) (x : Float) → T (fits binary32 x) → Size 8388608 x → suc c ≤ n → Left n c x → Left n (suc c) (x ⊕ unit true)
@@ -159,31 +156,26 @@ between n c d (fin false m e) p l =
 between n c d (fin true m e) p l =
     let h : (c + d) * down e < n * down e = omega (arith, add-mul base c (down e), add-mul c d (down e)) in lt-of-mul-lt-mul-right (down e) h
 
-pub not-below : (k : ℕ) (x : Float) → Size k x → le +0 x ≡ true → Past base x
-unfolding le lt eq ofBits
-not-below k nan s t = s
-not-below k (inf u) s t = s
-not-below k (fin false m e) s t = omega arith
-not-below k (fin true m e) s t =
-    let z = eqb-true (0 * down e) (m * up e * 1) (both (eqb (0 * down e) (m * up e * 1)) (false || eqb (0 * down e) 0) t .0) in
-    omega (arith, mul-one (m * up e), zero-mul (down e))
+-- a * 2 ^ d is the whole number n
+scaled : (n a : ℕ) (e d : ℤ) → HasValue (fin false a d) false n 1 → a * up d * down e ≡ n * down e * down d
+scaled n a e d v = ap (λ (z : ℕ). z * down e) (sym (mul-one (a * up d)) ∙ v .1) ∙ mul-right-comm n (down d) (down e)
 
-pub is-below : (n : ℕ) (x y : Float) (k : ℕ) → Size k x → HasValue y false n 1 → lt x y ≡ true → Left n 0 x
-unfolding lt
-is-below n nan y k s v t = s
-is-below n (inf u) y k s v t = s
-is-below n (fin r m e) nan k s v t = absurd v
-is-below n (fin r m e) (inf u) k s v t = absurd v
-is-below n (fin r m e) (fin true a d) k s v t = absurd (true≢false (v .0))
-is-below n (fin false m e) (fin false a d) k s v t =
+-- not below zero and below the whole number n, as floats compare
+pub on-side : (n : ℕ) (x y : Float) → HasValue y false n 1 → le +0 x ≡ true → lt x y ≡ true → Past base x × Left n 0 x
+unfolding le lt eq ofBits
+on-side n x nan v l t = absurd v
+on-side n x (inf u) v l t = absurd v
+on-side n x (fin true a d) v l t = absurd (true≢false (v .0))
+on-side n nan (fin false a d) v l t = absurd (true≢false (sym t))
+on-side n (inf true) (fin false a d) v l t = absurd (true≢false (sym l))
+on-side n (inf false) (fin false a d) v l t = absurd (true≢false (sym t))
+on-side n (fin false m e) (fin false a d) v l t =
     let h = ltb-true (m * up e * down d) (a * up d * down e) t in
-    let j : a * up d * down e ≡ n * down e * down d =
-    ap (λ (z : ℕ). z * down e) (sym (mul-one (a * up d)) ∙ v .1) ∙ mul-right-comm n (down d) (down e) in
-    let g : m * up e * down d < n * down e * down d = omega arith in
-    omega (arith, lt-of-mul-lt-mul-right (down d) g, zero-mul (down e))
-is-below n (fin true m e) (fin false a d) k s v t =
+    let g : m * up e * down d < n * down e * down d = omega (arith, scaled n a e d v) in
+    (omega arith, omega (arith, lt-of-mul-lt-mul-right (down d) g, zero-mul (down e)))
+on-side n (fin true m e) (fin false a d) v l t =
+    let z = eqb-true (0 * down e) (m * up e * 1) (both (eqb (0 * down e) (m * up e * 1)) (false || eqb (0 * down e) 0) l .0) in
     let h = ltb-true 0 (m * up e * down d + a * up d * down e) t in
-    let j : a * up d * down e ≡ n * down e * down d =
-    ap (λ (z : ℕ). z * down e) (sym (mul-one (a * up d)) ∙ v .1) ∙ mul-right-comm n (down d) (down e) in
-    let g : 0 * down d < (n * down e + m * up e) * down d = omega (arith, add-mul (n * down e) (m * up e) (down d), zero-mul (down d)) in
-    omega (arith, lt-of-mul-lt-mul-right (down d) g, zero-mul (down e))
+    let g : 0 * down d < (n * down e + m * up e) * down d =
+    omega (arith, scaled n a e d v, add-mul (n * down e) (m * up e) (down d), zero-mul (down d)) in
+    (omega (arith, mul-one (m * up e), zero-mul (down e)), omega (arith, lt-of-mul-lt-mul-right (down d) g, zero-mul (down e)))

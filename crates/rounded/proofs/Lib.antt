@@ -4,3 +4,6 @@ pub mod Step
 pub mod Apart
 pub mod Slopes
 pub mod Down
+pub mod Halves
+pub mod Signed
+pub mod Whole

@@ -9,7 +9,7 @@ use lib.Ieee.{Float, nan, inf, fin, binary32, up, down, round, neg, sum, add, su
 use lib.Ieee.Fits.{down-pos}
 use Rattle.float.specs.Rounded.{_⊕_, _⊖_}
 use Rattle.float.specs.Values.{absOf}
-use Rattle.rounded.proofs.Round.{Mag, round-mag, round-mag-neg}
+use Rattle.rounded.proofs.Round.{Mag, round-mag}
 use Rattle.rounded.specs.Size.{Size}
 
 pub size-wider : (k l : ℕ) (x : Float) → k ≤ l → Size k x → Size l x
@@ -23,8 +23,7 @@ size-of-mag s p q (inf t) h = h
 size-of-mag s p q (fin t m e) h = h .2
 
 pub round-size : (s : Bool) (a c q : ℕ) → 0 < c → a ≤ q * c → q ≤ 2 ^ 24 → Size q (round binary32 s a c)
-round-size false a c q C h t = size-of-mag false 0 q (round binary32 false a c) (round-mag a c 0 q C (omega (arith, zero-mul c)) h t)
-round-size true a c q C h t = size-of-mag true 0 q (round binary32 true a c) (round-mag-neg a c 0 q C (omega (arith, zero-mul c)) h t)
+round-size s a c q C h t = size-of-mag s 0 q (round binary32 s a c) (round-mag s a c 0 q C (omega (arith, zero-mul c)) h t)
 
 pub neg-size : (k : ℕ) (x : Float) → Size k x → Size k (neg x)
 unfolding neg

@@ -13,7 +13,7 @@ use lib.Ieee.{Float, nan, inf, fin, binary32, up, down, round, neg, sum, add, lt
 use lib.Ieee.Fits.{down-pos}
 use Rattle.float.specs.Rounded.{_⊕_}
 use Rattle.float.proofs.Negated.{neg-round}
-use Rattle.rounded.proofs.Round.{Mag, round-mag, round-mag-neg}
+use Rattle.rounded.proofs.Round.{Mag, round-mag}
 use Rattle.rounded.specs.Size.{Size}
 
 -- whole numbers are counted from -2 ^ 17, so that they are not negative
@@ -87,12 +87,12 @@ above n D R h = elim (decLe n base) [
 step-up : (j M D : ℕ) → 0 < D → j * D ≤ base * D + M → M ≤ 8388608 * D → Past (suc j) (round binary32 false (M + D) D)
 step-up j M D P h top =
     past-up (suc j) (suc j - base) 8388609 (round binary32 false (M + D) D) (omega arith)
-    (round-mag (M + D) D (suc j - base) 8388609 P (above (suc j) D (M + D) (omega (arith, suc-mul j D))) (omega arith) (lit≤ tt))
+    (round-mag false (M + D) D (suc j - base) 8388609 P (above (suc j) D (M + D) (omega (arith, suc-mul j D))) (omega arith) (lit≤ tt))
 
 step-zero : (j M D : ℕ) → 0 < D → j * D + M ≤ base * D → M < D → Past (suc j) (round binary32 false (D - M) D)
 step-zero j M D P h l =
     past-up (suc j) (suc j - base) 1 (round binary32 false (D - M) D) (omega arith)
-    (round-mag (D - M) D (suc j - base) 1 P (above (suc j) D (D - M) (omega (arith, suc-mul j D))) (omega arith) (lit≤ tt))
+    (round-mag false (D - M) D (suc j - base) 1 P (above (suc j) D (D - M) (omega (arith, suc-mul j D))) (omega arith) (lit≤ tt))
 
 step-down : (j M D : ℕ) (s : Bool) → 0 < D → j * D + M ≤ base * D → D ≤ M → (s ≡ false → M ≤ D) → Past (suc j) (round binary32 s (M - D) D)
 step-down j M D s P h l e = go s e
@@ -106,11 +106,11 @@ step-down j M D s P h l e = go s e
     go : (s : Bool) → (s ≡ false → M ≤ D) → Past (suc j) (round binary32 s (M - D) D)
     go true e =
         past-down (suc j) 0 (base - suc j) (round binary32 true (M - D) D) (omega (arith, small))
-        (round-mag-neg (M - D) D 0 (base - suc j) P (omega (arith, zero-mul D)) (omega (arith, split, suc-mul j D)) (omega arith))
+        (round-mag true (M - D) D 0 (base - suc j) P (omega (arith, zero-mul D)) (omega (arith, split, suc-mul j D)) (omega arith))
     go false e =
         let z : M ≤ D = e refl in
         past-up (suc j) 0 0 (round binary32 false (M - D) D) (omega (arith, small))
-        (round-mag (M - D) D 0 0 P (omega (arith, zero-mul D)) (omega arith) (lit≤ tt))
+        (round-mag false (M - D) D 0 0 P (omega (arith, zero-mul D)) (omega arith) (lit≤ tt))
 
 -- ---- in either direction
 

@@ -27,7 +27,7 @@ at-size {a} s (suc k) h =
     let e : 65536 + k + 1 ≡ 65536 + suc k = omega arith in
     subst (λ (j : ℕ). Size j (at a (suc k))) e (add-size (65536 + k) 1 (at a k) (a .slope) (at-size s k (omega arith)) (s .slope-size) (omega arith))
 
-directed-size : (s : Bool) (k : ℕ) (x : Float) → Size k x → Size k (directed s x)
+pub directed-size : (s : Bool) (k : ℕ) (x : Float) → Size k x → Size k (directed s x)
 directed-size false k x h = h
 directed-size true k x h = neg-size k x h
 
@@ -46,19 +46,37 @@ past-next {a} z m j k h p =
     subst (λ (d : Float). Past (suc j) (directed s (at a k ⊕ d))) (sym (m .1))
     (step s j (at a k) p (under-of-size 8388608 (directed s (at a k)) (directed-size s 8388608 (at a k) u)))
 
-past-at : {a : Axis} → Sized a → (m : Major a) (k : ℕ) → k ≤ mostSteps → Past (65536 + k) (directed (m .0) (at a k))
-past-at {a} z m zero h = unfold at in past-of-size 65536 (directed (m .0) (a .start)) (omega arith) (directed-size (m .0) 65536 (a .start) (z .start-size))
-past-at {a} z m (suc k) h =
-    let e : suc (65536 + k) ≡ 65536 + suc k = omega arith in
-    subst (λ (j : ℕ). Past j (directed (m .0) (at a (suc k)))) e (past-next z m (65536 + k) k (omega arith) (past-at z m k (omega arith)))
+-- from a start that is at least j
+pub past-from : {a : Axis} → Sized a → (m : Major a) (j : ℕ) → Past j (directed (m .0) (a .start))
+    → (k : ℕ) → k ≤ mostSteps → Past (j + k) (directed (m .0) (at a k))
+past-from {a} z m j p zero h =
+    let e : j ≡ j + 0 = omega arith in subst (λ (i : ℕ). Past i (directed (m .0) (at a 0))) e (unfold at in p)
+past-from {a} z m j p (suc k) h =
+    let e : suc (j + k) ≡ j + suc k = omega arith in
+    subst (λ (i : ℕ). Past i (directed (m .0) (at a (suc k)))) e (past-next z m (j + k) k (omega arith) (past-from z m j p k (omega arith)))
 
--- within its range it is at most 65,537 in the direction of its steps
-within-under : {a : Axis} → Sized a → (s : Bool) (j : ℕ) (x : Float) → Past j (directed s x) → within a x ≡ true → Under 65537 (directed s x)
+past-at : {a : Axis} → Sized a → (m : Major a) (k : ℕ) → k ≤ mostSteps → Past (65536 + k) (directed (m .0) (at a k))
+past-at {a} z m k h =
+    past-from z m 65536 (past-of-size 65536 (directed (m .0) (a .start)) (omega arith) (directed-size (m .0) 65536 (a .start) (z .start-size))) k h
+
+-- ---- the end of the range in the direction of the steps
+
+abbrev pub reach : Bool → Axis → Float
+reach false a = a .high
+reach true a = neg (a .low)
+
+reach-size : {a : Axis} → Sized a → (s : Bool) → Size 65537 (reach s a)
+reach-size z false = z .high-size
+reach-size {a} z true = neg-size 65537 (a .low) (z .low-size)
+
+pub within-reach : (a : Axis) (s : Bool) (x : Float) → within a x ≡ true → lt (reach s a) (directed s x) ≡ false
 unfolding within
-within-under {a} z false j x p w = under-not j 65537 x (a .high) p (under-of-size 65537 (a .high) (z .high-size)) (neither (lt x (a .low)) (lt (a .high) x) (not-true _ w) .1)
-within-under {a} z true j x p w =
-    under-not j 65537 (neg x) (neg (a .low)) p (under-of-size 65537 (neg (a .low)) (neg-size 65537 (a .low) (z .low-size)))
-    (neg-lt (a .low) x ∙ neither (lt x (a .low)) (lt (a .high) x) (not-true _ w) .0)
+within-reach a false x w = neither (lt x (a .low)) (lt (a .high) x) (not-true _ w) .1
+within-reach a true x w = neg-lt (a .low) x ∙ neither (lt x (a .low)) (lt (a .high) x) (not-true _ w) .0
+
+-- so within its range it is at most 65,537
+within-under : {a : Axis} → Sized a → (s : Bool) (j : ℕ) (x : Float) → Past j (directed s x) → within a x ≡ true → Under 65537 (directed s x)
+within-under {a} z s j x p w = under-not j 65537 (directed s x) (reach s a) p (under-of-size 65537 (reach s a) (reach-size z s)) (within-reach a s x w)
 
 few : {a : Axis} → Sized a → Major a → (k : ℕ) → k ≤ mostSteps → within a (at a k) ≡ true → k < mostSteps
 few {a} z m k h w =

@@ -13,7 +13,7 @@ use Rattle.float.specs.Rounded.{_⊕_, +0}
 use Rattle.rounded.specs.Size.{Size}
 use Rattle.rounded.proofs.Sizes.{size-wider}
 use Rattle.rounded.proofs.Step.{base, Past, past-less, unit}
-use Rattle.rounded.proofs.Down.{both, Left, back-on, back-off, between, not-below, is-below}
+use Rattle.rounded.proofs.Down.{both, Left, back-on, back-off, between, on-side}
 use Rattle.stroke.specs.declared.axis.Axis.{Axis}
 use Rattle.stroke.specs.Walk.{at, mostSteps}
 use Rattle.stroke.specs.Image.{onSide, oneIf}
@@ -41,21 +41,17 @@ module _ {a : Axis} (z : Sized a) (f : T (fits binary32 (a .start))) (m : Major 
   unfolding at
   moved s k e = ap (λ (d : Float). at a k ⊕ d) e
 
-  low : (k : ℕ) → k ≤ mostSteps → t k ≡ true → Past base (at a k)
+  here : (k : ℕ) → t k ≡ true → Past base (at a k) × Left n 0 (at a k)
   unfolding onSide
-  low k h e = not-below 8388608 (at a k) (size k h) (both (le +0 (at a k)) (lt (at a k) side) (on k e) .0)
+  here k e = let b = both (le +0 (at a k)) (lt (at a k) side) (on k e) in on-side n (at a k) side v (b .0) (b .1)
 
-  high : (k : ℕ) → k ≤ mostSteps → t k ≡ true → Left n 0 (at a k)
-  unfolding onSide
-  high k h e = is-below n (at a k) side 8388608 (size k h) v (both (le +0 (at a k)) (lt (at a k) side) (on k e) .1)
+  first-on : (s : Bool) (k : ℕ) → t k ≡ true → Gone s n 0 (at a k)
+  first-on false k e = past-less (base + 0) base (at a k) (omega arith) (here k e .0)
+  first-on true k e = here k e .1
 
-  first-on : (s : Bool) (k : ℕ) → k ≤ mostSteps → t k ≡ true → Gone s n 0 (at a k)
-  first-on false k h e = past-less (base + 0) base (at a k) (omega arith) (low k h e)
-  first-on true k h e = high k h e
-
-  room-on : (s : Bool) (c k : ℕ) → k ≤ mostSteps → t k ≡ true → Gone s n c (at a k) → suc c ≤ n
-  room-on false c k h e g = omega (arith, between n c 0 (at a k) g (high k h e))
-  room-on true c k h e g = omega (arith, between n 0 c (at a k) (past-less (base + 0) base (at a k) (omega arith) (low k h e)) g)
+  room-on : (s : Bool) (c k : ℕ) → t k ≡ true → Gone s n c (at a k) → suc c ≤ n
+  room-on false c k e g = omega (arith, between n c 0 (at a k) g (here k e .1))
+  room-on true c k e g = omega (arith, between n 0 c (at a k) (past-less (base + 0) base (at a k) (omega arith) (here k e .0)) g)
 
   next-on : (s : Bool) (c k : ℕ) → a .slope ≡ unit s → k ≤ mostSteps → suc c ≤ n → Gone s n c (at a k) → Gone s n (suc c) (at a (suc k))
   next-on false c k e h l g = past-less (base + suc c) (suc (base + c)) (at a (suc k)) (omega arith) (past-next z (false, e) (base + c) k h g)
@@ -78,7 +74,7 @@ module _ {a : Axis} (z : Sized a) (f : T (fits binary32 (a .start))) (m : Major 
       c = count k
 
       going : t k ≡ true → (c ≡ 0) ⊎ Gone (m .0) n c (at a k) → Gone (m .0) n c (at a k)
-      going e (inl o) = subst (λ (i : ℕ). Gone (m .0) n i (at a k)) (sym o) (first-on (m .0) k (omega arith) e)
+      going e (inl o) = subst (λ (i : ℕ). Gone (m .0) n i (at a k)) (sym o) (first-on (m .0) k e)
       going e (inr g) = g
 
       still : c ≤ n → (c ≡ 0) ⊎ Gone (m .0) n c (at a k) → (c ≡ 0) ⊎ Gone (m .0) n c (at a (suc k))
@@ -88,7 +84,7 @@ module _ {a : Axis} (z : Sized a) (f : T (fits binary32 (a .start))) (m : Major 
       go : (u : Bool) → t k ≡ u → Behind k c → Behind (suc k) (c + oneIf u)
       go true e b =
           let g = going e (b .gone) in
-          let l = room-on (m .0) c k (omega arith) e g in
+          let l = room-on (m .0) c k e g in
           let i : suc c ≡ c + 1 = omega arith in
           subst (Behind (suc k)) i (record { some = l; gone = inr (next-on (m .0) c k (m .1) (omega arith) l g) })
       go false e b =
