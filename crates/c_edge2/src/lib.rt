@@ -5,6 +5,7 @@ use edge2::OnEdge;
 use types::Aabb2;
 use types::Vec2;
 ghost use mathlib.Core.Path.{_≡_};
+ghost use mathlib.Core.Bool.{true};
 ghost use lib.ListN.{length as entries};
 ghost use Rattle.c_answers.specs.Answers.{ofLength, ofListed};
 ghost use Rattle.pixels.specs.Answer.{overlappingPixelsDdaOf};
@@ -125,8 +126,8 @@ pub extern "C" fn bgz_edge2_ink(s: Vec2, e: Vec2, b: Aabb2) -> FloatAnswer
 // lie within the ends' ranges, widened by 2^-23. Each position in the image enters row * `width` + column. The first position
 // outside the ranges enters likewise as a closing entry, a negative coordinate as 0. There is always one, last: it is no pixel of the
 // stroke, though it may name one of the image. The stroke's pixels are the entries before it.
-// Writes the entries to the start of `list` and answers how many: at most one more than the longer of `width` and `height`, so a
-// list of that length is never too short.
+// Writes the entries to the start of `list` and answers how many: never more than `edge2::pixels_bound` answers, so a list of that
+// length is never too short.
 // Refused: `SIZE` if `width` or `height` is above 16,384; of the coordinates `p0.x`, `p0.y`, `p1.x`, `p1.y` the first that offends
 // decides: `NOT_FINITE` if it is not finite, `COORDINATE` if it is above 65,536 in size; `SAME_ENDS` if `p0` equals `p1`; `ROOM` if `list`
 // is shorter than the entries.
@@ -141,7 +142,7 @@ pub extern "C" fn bgz_edge2_overlapping_pixels_dda(
     list: &mut [u32],
 ) -> CountAnswer
     ensures answers { λ r. ⌜ r ≡ ofListed (overlappingPixelsDdaOf width height p0 p1 (entries (now (list .entry)))) ⌝ }
-    ensures promises { λ r. ⌜ Promise width height p0 p1 (now (list .entry)) (overlappingPixelsDdaOf width height p0 p1 (entries (now (list .entry)))) (now (list .exit)) ⌝ }
+    ensures promises { λ r. ⌜ Promise true width height p0 p1 (now (list .entry)) (overlappingPixelsDdaOf width height p0 p1 (entries (now (list .entry)))) (now (list .exit)) ⌝ }
 {
     c_answers::listed(pixels::overlapping_pixels_dda(width, height, p0, p1, list))
 }

@@ -15,8 +15,10 @@ use Rattle.lists.specs.Places.{upto}
 use Rattle.stroke.specs.Walk.{stepOf, axisOf, at, within, inRanges, firstOutside, exit, positions}
 use Rattle.stroke.specs.Image.{onSide, inSides}
 use Rattle.pixels.specs.Entries.{number, kept, pixels, entries, strokeOf}
-use Rattle.stroke.specs.Check.{sidesTooLarge, withinLimit, numberOf, offenderFrom, sameEnds}
-use Rattle.pixels.specs.Answer.{unlessOffender, overlappingPixelsDdaOf}
+use Rattle.stroke.specs.Check.{sidesTooLarge, withinLimit, numberOf, offenderFrom, sameEnds, unlessOffender, acceptOf}
+use Rattle.stroke.specs.Answer.{ifAccepted}
+use Rattle.stroke_bound.specs.Bound.{largerDifferenceOf, pixelsBoundOf}
+use Rattle.pixels.specs.Answer.{walkOf}
 use Rattle.figures.specs.Claim.{FiguresHold}
 
 pub hold : FiguresHold
@@ -25,11 +27,12 @@ unfolding round ofInt ofBits neg add sub mul div lt le ne eq isNan toUnsigned ab
     encodedOf resultsOf intersectionsAgainstLinesOf
     tilesOf overlappingTilesOf
     stepOf axisOf at within inRanges firstOutside exit upto positions onSide inSides number kept pixels entries strokeOf
-    sidesTooLarge withinLimit numberOf offenderFrom sameEnds fitted unlessOffender overlappingPixelsDdaOf
+    sidesTooLarge withinLimit numberOf offenderFrom sameEnds unlessOffender acceptOf ifAccepted fitted walkOf largerDifferenceOf pixelsBoundOf
 hold = (
   (refl, (refl, (refl, (refl, (refl, (refl, (refl, (refl, (refl, ((refl, refl), ((refl, refl), ((refl, refl), ((refl, refl, refl), tt))))))))))))),
   (refl, (refl, (refl, (refl, (refl, (refl, ((refl, refl, refl), tt))))))),
   ((refl, refl), ((refl, refl, refl), ((refl, refl, refl), ((refl, refl, refl), ((refl, refl, refl), ((refl, refl, refl), ((refl, refl, refl), tt))))))),
   ((refl, refl), ((refl, refl), ((refl, refl), (refl, (refl, (refl, tt)))))),
-  (λ _. refl, (λ _. refl, (λ _. refl, (λ _. refl, (λ _. refl, (λ _. refl, (λ _. refl, (λ _. refl, (λ _. refl, (λ _. refl, (λ _. refl, (λ _. refl, (λ _. refl, tt))))))))))))),
+  (λ _ _. refl, (λ _ _. refl, (λ _ _. refl, (λ _ _. refl, (λ _ _. refl, (λ _ _. refl, (λ _ _. refl, (λ _ _. refl, (λ _ _. refl, (λ _ _. refl, (λ _ _. refl, (λ _ _. refl, (λ _ _. refl, tt))))))))))))),
+  ((refl, refl, refl), ((refl, refl, refl), ((refl, refl, refl), ((refl, refl, refl), ((refl, refl, refl), ((refl, refl, refl), ((refl, refl, refl), (refl, (refl, (refl, (refl, tt))))))))))),
 )

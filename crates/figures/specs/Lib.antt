@@ -4,4 +4,5 @@ pub mod Twins
 pub mod Further
 pub mod Faces
 pub mod Offenders
+pub mod Inside
 pub mod Claim

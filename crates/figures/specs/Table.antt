@@ -1,7 +1,7 @@
 -- How document 01's table of figures is written: its numbers, its shapes, and what a row of each kind says. Definitions only.
 use Prim.{Unit}
 use mathlib.Core.Path.{_≡_}
-use mathlib.Core.Bool.{true, false}
+use mathlib.Core.Bool.{Bool, true, false}
 use mathlib.Core.List.{List, [], _∷_}
 use Prim.Native.Nat.{ℕ, _-_}
 use lib.ListN.{length}
@@ -23,7 +23,8 @@ use Rattle.tiles.specs.Sheet.{Sheet}
 use Rattle.tiles.specs.Tiles.{tilesOf}
 use Rattle.tiles.specs.Answer.{overlappingTilesOf}
 use Rattle.pixels.specs.Entries.{strokeOf}
-use Rattle.pixels.specs.Answer.{overlappingPixelsDdaOf}
+use Rattle.pixels.specs.Answer.{walkOf}
+use Rattle.stroke_bound.specs.Bound.{pixelsBoundOf}
 
 -- ---- numbers, each an f32: `plus 4`, `minus 1`, and `halves 7` for 3.5
 
@@ -74,16 +75,26 @@ raster b width height answer = rasterizeOf b width height ≡ answer
 abbrev pub tiles : Aabb2 → Sheet → List ℕ → Type 0
 tiles b sheet numbers = (tilesOf sheet b ≡ numbers) × (overlappingTilesOf sheet b (length numbers) ≡ Count (length numbers))
 
--- the same of a stroke's entries; and a list shorter by one is refused
-abbrev pub stroke : Vec2 → Vec2 → ℕ → ℕ → List ℕ → Type 0
-stroke p q width height numbers =
-    (strokeOf width height p q ≡ numbers)
-    × (overlappingPixelsDdaOf width height p q (length numbers) ≡ Count (length numbers))
-    × (overlappingPixelsDdaOf width height p q (length numbers - 1) ≡ Refused 1)
+-- the same of a stroke's entries, with the closing one or without it; and a list shorter by one is refused
+abbrev pub walk : Bool → Vec2 → Vec2 → ℕ → ℕ → List ℕ → Type 0
+walk closing p q width height numbers =
+    (strokeOf closing width height p q ≡ numbers)
+    × (walkOf closing width height p q (length numbers) ≡ Count (length numbers))
+    × (walkOf closing width height p q (length numbers - 1) ≡ Refused 1)
 
--- a stroke is refused so, whatever the length of the list
+abbrev pub stroke : Vec2 → Vec2 → ℕ → ℕ → List ℕ → Type 0
+stroke = walk true
+
+abbrev pub inside : Vec2 → Vec2 → ℕ → ℕ → List ℕ → Type 0
+inside = walk false
+
+-- how many entries the stroke makes at most, the closing one among them
+abbrev pub bound : Vec2 → Vec2 → ℕ → ℕ → ℕ → Type 0
+bound p q width height number = pixelsBoundOf width height p q ≡ Count number
+
+-- a stroke is refused so by both walks, whatever the length of the list
 abbrev pub strokeRefused : Vec2 → Vec2 → ℕ → ℕ → Listed → Type 0
-strokeRefused p q width height answer = (room : ℕ) → overlappingPixelsDdaOf width height p q room ≡ answer
+strokeRefused p q width height answer = (closing : Bool) (room : ℕ) → walkOf closing width height p q room ≡ answer
 
 -- ---- the claim about a list of rows: each of them holds
 

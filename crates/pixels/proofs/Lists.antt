@@ -53,7 +53,7 @@ pub one-le : (t : Bool) → oneIf t ≤ 1
 one-le true = omega arith
 one-le false = omega arith
 
-keep-length : (t : Bool) (x : ℕ) → length (keepIf t x []) ≡ oneIf t
+pub keep-length : (t : Bool) (x : ℕ) → length (keepIf t x []) ≡ oneIf t
 keep-length true x = refl
 keep-length false x = refl
 

@@ -1,12 +1,11 @@
 -- A stroke makes one entry at most for each column of the image, or for each row, and the closing one. Assumes nothing.
 use mathlib.Core.Path.{_≡_, ap}
-use mathlib.Core.Bool.{true, false}
+use mathlib.Core.Bool.{Bool, true, false}
 use mathlib.Core.Logic.{inl, inr}
-use mathlib.Core.List.{[], _∷_}
 use Prim.Native.Nat.{ℕ, _^_, _≤_, max}
 use native.Mathlib.Omega.{arith}
 use lib.IntN.{pos}
-use lib.ListN.{length, length-append}
+use lib.ListN.{length}
 use lib.Ieee.{binary32, ofInt}
 use lib.Ieee.Back.{round-whole}
 use lib.Ieee.Exact.{HasValue}
@@ -18,12 +17,13 @@ use Rattle.stroke.specs.Image.{onSide, inSides, onImage}
 use Rattle.stroke.proofs.Accepted.{Accepted, sized-x, sized-y, major}
 use Rattle.stroke.proofs.Stops.{exit-le}
 use Rattle.stroke.proofs.Sides.{count-le}
-use Rattle.pixels.specs.Entries.{number, entries, strokeOf}
-use Rattle.pixels.specs.Promise.{mostEntries}
+use Rattle.stroke_bound.specs.Bound.{mostBySides}
+use Rattle.pixels.specs.Entries.{entries, strokeOf}
 use Rattle.pixels.specs.Post.{entered}
 use Rattle.pixels.proofs.Lists.{entered-none, entered-more}
+use Rattle.pixels.proofs.Writing.{closed-length}
 
-side-value : (w : ℕ) → w ≤ 2 ^ 24 → HasValue (ofInt binary32 (pos w)) false w 1
+pub side-value : (w : ℕ) → w ≤ 2 ^ 24 → HasValue (ofInt binary32 (pos w)) false w 1
 unfolding ofInt
 side-value w h = round-whole binary32 false w h
 
@@ -55,6 +55,6 @@ module _ {p q : Vec2} (v : Accepted p q) (w h : ℕ) (wide : w ≤ 16384) (high 
         omega arith
   ]
 
-  pub stroke-few : length (strokeOf w h p q) ≤ mostEntries w h
+  pub few-by-sides : (c : Bool) → length (strokeOf c w h p q) ≤ mostBySides c w h
   unfolding strokeOf entries positions
-  stroke-few = omega (arith, entered-few (exit A B) (exit-le A B), length-append (entered w h A B (exit A B)) (number w (position A B (exit A B)) ∷ []))
+  few-by-sides c = omega (arith, entered-few (exit A B) (exit-le A B), closed-length c w h A B (exit A B))

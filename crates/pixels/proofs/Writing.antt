@@ -9,7 +9,7 @@ use native.Mathlib.Omega.{arith}
 use lib.ListN.{length, set, drop, length-append, length-drop}
 use Rattle.types.specs.declared.shape.Vec2.{Vec2}
 use Rattle.stroke.specs.declared.axis.Axis.{Axis}
-use Rattle.pixels.specs.declared.walk.Reached.{Reached}
+use Rattle.pixels.specs.declared.write.Reached.{Reached}
 use Rattle.rounded.specs.Size.{Size}
 use Rattle.rounded.proofs.Sizes.{size-wider}
 use Rattle.lists.specs.Lent.{written}
@@ -18,7 +18,7 @@ use Rattle.stroke.specs.Walk.{at, position, mostSteps}
 use Rattle.stroke.specs.Image.{onImage, oneIf}
 use Rattle.pixels.specs.Entries.{number, keepIf}
 use Rattle.stroke.proofs.Outside.{at-size}
-use Rattle.pixels.proofs.Lists.{entered-none, entered-suc, entered-more, entered-le}
+use Rattle.pixels.proofs.Lists.{entered-none, entered-suc, keep-length, entered-more, entered-le}
 use Rattle.stroke.specs.Steps.{Sized, first, next}
 use Rattle.pixels.specs.Post.{setIf, entered, Drawn, Bounded, Entered, closed, Closed}
 use Rattle.pixels.proofs.Counting.{Counting, counting-none, counting-le, counting-more}
@@ -104,8 +104,15 @@ module _ {w h : ℕ} {a b : Axis} {steps : ℕ} {l list : List ℕ} {p : Vec2} {
 
 -- ---- the closing entry
 
-pub closed-length : (w h : ℕ) (a b : Axis) (k : ℕ) → length (closed w h a b k) ≡ length (entered w h a b k) + 1
-closed-length w h a b k = length-append (entered w h a b k) (number w (position a b k) ∷ [])
+pub closed-length : (c : Bool) (w h : ℕ) (a b : Axis) (k : ℕ) → length (closed c w h a b k) ≡ length (entered w h a b k) + oneIf c
+closed-length c w h a b k =
+    length-append (entered w h a b k) (keepIf c (number w (position a b k)) [])
+    ∙ ap (λ (i : ℕ). length (entered w h a b k) + i) (keep-length c (number w (position a b k)))
+
+pub not-closing : {w h : ℕ} {a b : Axis} {k : ℕ} {r : Reached} {l list : List ℕ} → Entered w h a b k r l list → Closed false w h a b k (r .count) l list
+not-closing {w} {h} {a} {b} {k} {r} {l} g =
+    let e = sym (append-nil (entered w h a b k)) in
+    record { count-is = g .count-is ∙ ap length e; list-is = g .list-is ∙ ap (λ (es : List ℕ). written es l) e }
 
 pub closing :
     {w h : ℕ} {a b : Axis} {k : ℕ} {r : Reached} {l list : List ℕ} →
@@ -113,16 +120,16 @@ pub closing :
     length (entered w h a b k) < length l →
     (v : ℕ) →
     v ≡ number w (r .position) →
-    Closed w h a b k (r .count + 1) l (set list (r .count) v)
+    Closed true w h a b k (r .count + 1) l (set list (r .count) v)
 unfolding written
 closing {w} {h} {a} {b} {k} {r} {l} {list} g room v e =
     let E = entered w h a b k in
-    let c = closed-length w h a b k in
+    let c = closed-length true w h a b k in
     record {
       count-is = ap (λ (i : ℕ). i + 1) (g .count-is) ∙ sym c;
       list-is =
           ap (λ (t : List ℕ). set t (r .count) v) (g .list-is) ∙ ap (λ (i : ℕ). set (E ++ drop (length E) l) i v) (g .count-is)
           ∙ store-next E l (length E) v refl room
           ∙ ap (λ (i : ℕ). (E ++ (i ∷ [])) ++ drop (suc (length E)) l) (e ∙ ap (number w) (g .position-is))
-          ∙ ap (λ (i : ℕ). closed w h a b k ++ drop i l) (sym (c ∙ add-one (length E)));
+          ∙ ap (λ (i : ℕ). closed true w h a b k ++ drop i l) (sym (c ∙ add-one (length E)));
     }

@@ -24,10 +24,10 @@ kept t (x ∷ l) = keepIf (t x) x (kept t l)
 unfoldable pub pixels : ℕ → ℕ → List Vec2 → List ℕ
 pixels w h ps = map (number w) (kept (onImage w h) ps)
 
--- and last the closing entry, of the position at which the walk left; it may be no pixel of the image
-unfoldable pub entries : ℕ → ℕ → Axis → Axis → List ℕ
-entries w h a b = pixels w h (positions a b) ++ (number w (position a b (exit a b)) ∷ [])
+-- and, if `closing`, last the closing entry, of the position at which the walk left; it may be no pixel of the image
+unfoldable pub entries : Bool → ℕ → ℕ → Axis → Axis → List ℕ
+entries closing w h a b = pixels w h (positions a b) ++ keepIf closing (number w (position a b (exit a b))) []
 
 -- the entries of the stroke from p to q
-unfoldable pub strokeOf : ℕ → ℕ → Vec2 → Vec2 → List ℕ
-strokeOf w h p q = entries w h (alongX p q) (alongY p q)
+unfoldable pub strokeOf : Bool → ℕ → ℕ → Vec2 → Vec2 → List ℕ
+strokeOf closing w h p q = entries closing w h (alongX p q) (alongY p q)

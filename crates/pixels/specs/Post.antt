@@ -1,20 +1,21 @@
 -- What the functions of the walk ask of each other and hand on. Definitions only.
 use mathlib.Core.Path.{_≡_}
 use mathlib.Core.Bool.{Bool, true, false}
-use mathlib.Core.List.{List, [], _∷_, _++_}
-use Prim.Native.Nat.{ℕ, _≤_}
-use lib.Dec.{ltb}
+use mathlib.Core.List.{List, [], _++_}
+use Prim.Native.Nat.{ℕ, _+_, _≤_}
+use lib.Dec.{leb}
 use lib.ListN.{length, set}
 use Rattle.types.specs.declared.shape.Vec2.{Vec2}
-use Rattle.lists.specs.Lent.{written}
+use Rattle.types.specs.declared.answer.Listed.{Listed}
+use Rattle.lists.specs.Lent.{written, fitted, leaves}
 use Rattle.lists.specs.Places.{upto}
 use Rattle.rounded.specs.Size.{Size}
 use Rattle.stroke.specs.declared.axis.Axis.{Axis}
 use Rattle.stroke.specs.Walk.{position, exit}
 use Rattle.stroke.specs.Steps.{Sized}
-use Rattle.pixels.specs.declared.walk.Measured.{Measured}
-use Rattle.pixels.specs.declared.walk.Reached.{Reached}
-use Rattle.pixels.specs.Entries.{number, pixels}
+use Rattle.pixels.specs.declared.measure.Measured.{Measured}
+use Rattle.pixels.specs.declared.write.Reached.{Reached}
+use Rattle.pixels.specs.Entries.{number, keepIf, pixels}
 
 -- ---- what is asked
 
@@ -41,14 +42,14 @@ setIf false l n v = l
 abbrev pub entered : ℕ → ℕ → Axis → Axis → ℕ → List ℕ
 entered w h a b k = pixels w h (upto (position a b) k)
 
--- and the closing entry, of position k
-abbrev pub closed : ℕ → ℕ → Axis → Axis → ℕ → List ℕ
-closed w h a b k = entered w h a b k ++ (number w (position a b k) ∷ [])
+-- and, if c, the closing entry, of position k
+abbrev pub closed : Bool → ℕ → ℕ → Axis → Axis → ℕ → List ℕ
+closed c w h a b k = entered w h a b k ++ keepIf c (number w (position a b k)) []
 
--- how many steps the walk takes, and whether a list of this length takes its entries and a closing one
-pub record Measures (w h : ℕ) (a b : Axis) (room : ℕ) (r : Measured) : Type 0 where
+-- how many steps the walk takes, and whether a list of this length takes its entries and `more` besides
+pub record Measures (w h : ℕ) (a b : Axis) (more room : ℕ) (r : Measured) : Type 0 where
   pub steps-is : r .steps ≡ exit a b
-  pub fits-is : r .fits ≡ ltb (length (entered w h a b (r .steps))) room
+  pub fits-is : r .fits ≡ leb (length (entered w h a b (r .steps)) + more) room
 
 -- the list l was lent, and is l' afterwards: with the entries of the first k positions
 pub record Entered (w h : ℕ) (a b : Axis) (k : ℕ) (r : Reached) (l l' : List ℕ) : Type 0 where
@@ -56,7 +57,11 @@ pub record Entered (w h : ℕ) (a b : Axis) (k : ℕ) (r : Reached) (l l' : List
   pub count-is : r .count ≡ length (entered w h a b k)
   pub list-is : l' ≡ written (entered w h a b k) l
 
--- and with the closing entry
-pub record Closed (w h : ℕ) (a b : Axis) (k r : ℕ) (l l' : List ℕ) : Type 0 where
-  pub count-is : r ≡ length (closed w h a b k)
-  pub list-is : l' ≡ written (closed w h a b k) l
+-- and, if c, with the closing entry
+pub record Closed (c : Bool) (w h : ℕ) (a b : Axis) (k r : ℕ) (l l' : List ℕ) : Type 0 where
+  pub count-is : r ≡ length (closed c w h a b k)
+  pub list-is : l' ≡ written (closed c w h a b k) l
+
+-- what is answered of the entries es for the list l, and the list afterwards
+abbrev pub Listing : List ℕ → List ℕ → Listed → List ℕ → Type 0
+Listing es l r l' = (r ≡ fitted es (length l)) × (l' ≡ leaves r es l)

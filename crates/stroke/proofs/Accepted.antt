@@ -1,17 +1,19 @@
 -- An accepted stroke: what the tests say of its ends, and that its walk leaves their ranges by itself. Assumes nothing.
-use mathlib.Core.Path.{_≡_, refl, sym, subst}
+use mathlib.Core.Path.{_≡_, refl, sym, _∙_, subst}
 use mathlib.Core.Bool.{Bool, true, false, _&&_, _||_, cond, true≢false}
 use mathlib.Core.Logic.{_⊎_, inl, inr}
 use mathlib.Core.List.{List, [], _∷_}
-use Prim.Native.Nat.{ℕ, suc, _*_}
+use Prim.Native.Nat.{ℕ, suc, _*_, _≤_}
 use native.Mathlib.Nat.{mul-one}
 use native.Mathlib.Omega.{arith}
+use borrow.Author.Tests.{ltb-false}
 use lib.IntN.{pos}
-use lib.Dec.{T, lit≤}
+use lib.Dec.{T, ltb, lit≤}
 use lib.Ieee.{Float, nan, inf, fin, binary32, up, lt, le, eq, isNan, fits, ofBits}
 use Rattle.types.specs.declared.shape.Vec2.{Vec2}
 use Rattle.float.specs.Rounded.{_⊖_, _⊘_, epsilon}
 use Rattle.float.specs.Values.{absOf, minOf, maxOf}
+use Rattle.float.proofs.Tests.{neither}
 use Rattle.rounded.specs.Size.{Size}
 use Rattle.rounded.proofs.Round.{le-num}
 use Rattle.rounded.proofs.Sizes.{cond-size, abs-size, add-size, sub-size}
@@ -19,8 +21,10 @@ use Rattle.rounded.proofs.Apart.{NonZero, apart}
 use Rattle.rounded.proofs.Slopes.{Slopes, slopes}
 use Rattle.stroke.specs.Walk.{stepOf, axisOf, alongX, alongY}
 use Rattle.stroke.specs.Stops.{Stops}
+use Rattle.stroke.specs.declared.check.Offender.{Offender}
 use Rattle.stroke.specs.declared.check.Offender.the-variants.{None, Found}
-use Rattle.stroke.specs.Check.{withinLimit, numberOf, offenderFrom, firstOffender, coordinates, sameEnds}
+use Rattle.stroke.specs.declared.check.Acceptance.the-variants.{Accepted as Yes, Refused, RefusedAt}
+use Rattle.stroke.specs.Check.{sidesTooLarge, withinLimit, numberOf, offenderFrom, firstOffender, coordinates, sameEnds, unlessOffender, acceptOf}
 use Rattle.stroke.specs.Steps.{Sized}
 use Rattle.stroke.proofs.Outside.{Major, outside}
 use Rattle.stroke.proofs.Stops.{stops}
@@ -83,6 +87,46 @@ accepted {p} {q} f t d =
       y1 = coordinate (q .y) (f .y1) (y1 .0);
       differ = either (eq (p .x) (q .x)) (eq (p .y) (q .y)) d;
     }
+
+-- a stroke that is walked, over an image w by h
+pub record Passed (w h : ℕ) (p q : Vec2) : Type 0 where
+  pub wide : w ≤ 16384
+  pub high : h ≤ 16384
+  pub stroke : Accepted p q
+
+not-refused : {A : Type 0} (k : ℕ) → Refused k ≡ Yes → A
+not-refused k e = absurd (let z : _≡_ {A = ℕ} 0 1 = cc in let y : ⊥ = omega arith in y)
+
+not-refused-at : {A : Type 0} (k place : ℕ) → RefusedAt k place ≡ Yes → A
+not-refused-at k place e = absurd (let z : _≡_ {A = ℕ} 0 1 = cc in let y : ⊥ = omega arith in y)
+
+pub passed : {w h : ℕ} {p q : Vec2} → AreFloats p q → acceptOf w h p q ≡ Yes → Passed w h p q
+unfolding acceptOf unlessOffender sidesTooLarge
+passed {w} {h} {p} {q} f = go (sidesTooLarge w h) (firstOffender (coordinates p q)) (sameEnds p q) refl refl refl
+  where
+    go :
+        (t : Bool) (o : Offender) (u : Bool) → sidesTooLarge w h ≡ t → firstOffender (coordinates p q) ≡ o → sameEnds p q ≡ u →
+        cond t (Refused 4) (unlessOffender o (cond u (Refused 2) Yes)) ≡ Yes → Passed w h p q
+    go true o u i j k e = not-refused 4 e
+    go false (Found n place) u i j k e = not-refused-at n place e
+    go false None true i j k e = not-refused 2 e
+    go false None false i j k e =
+        let s = neither (ltb 16384 w) (ltb 16384 h) i in
+        record { wide = ltb-false 16384 w (s .0); high = ltb-false 16384 h (s .1); stroke = accepted f j k }
+
+-- none of the tests refuses a short list
+pub not-short : (w h : ℕ) (p q : Vec2) (k : ℕ) → acceptOf w h p q ≡ Refused k → k ≡ 1 → ⊥
+unfolding acceptOf unlessOffender
+not-short w h p q k = go (sidesTooLarge w h) (firstOffender (coordinates p q)) (sameEnds p q)
+  where
+    other : (n : ℕ) → (n ≡ 1 → ⊥) → Refused n ≡ Refused k → k ≡ 1 → ⊥
+    other n o e z = o (let y : n ≡ k = cc in y ∙ z)
+
+    go : (t : Bool) (o : Offender) (u : Bool) → cond t (Refused 4) (unlessOffender o (cond u (Refused 2) Yes)) ≡ Refused k → k ≡ 1 → ⊥
+    go true o u e z = other 4 (λ y. omega arith) e z
+    go false (Found n place) u e z = let y : _≡_ {A = ℕ} 0 1 = cc in omega arith
+    go false None true e z = other 2 (λ y. omega arith) e z
+    go false None false e z = not-refused k (sym e)
 
 -- ---- its two axes
 

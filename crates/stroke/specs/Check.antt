@@ -9,6 +9,8 @@ use Rattle.types.specs.declared.shape.Vec2.{Vec2}
 use Rattle.float.specs.Values.{absOf}
 use Rattle.stroke.specs.declared.check.Offender.{Offender}
 use Rattle.stroke.specs.declared.check.Offender.the-variants.{None, Found}
+use Rattle.stroke.specs.declared.check.Acceptance.{Acceptance}
+use Rattle.stroke.specs.declared.check.Acceptance.the-variants.{Accepted, Refused, RefusedAt}
 
 -- an image side above 16,384
 unfoldable pub sidesTooLarge : ℕ → ℕ → Bool
@@ -42,3 +44,14 @@ coordinates p q = p .x ∷ p .y ∷ q .x ∷ q .y ∷ []
 -- equal as numbers: +0 equals -0
 unfoldable pub sameEnds : Vec2 → Vec2 → Bool
 sameEnds p q = eq (p .x) (q .x) && eq (p .y) (q .y)
+
+-- ---- the tests in their order
+
+-- a coordinate that offends is refused with its place, and else r is the outcome
+unfoldable pub unlessOffender : Offender → Acceptance → Acceptance
+unlessOffender (Found number place) r = RefusedAt number place
+unlessOffender None r = r
+
+-- the sides of an image w by h, then the coordinates of the ends p and q, then whether the ends are equal
+unfoldable pub acceptOf : ℕ → ℕ → Vec2 → Vec2 → Acceptance
+acceptOf w h p q = cond (sidesTooLarge w h) (Refused 4) (unlessOffender (firstOffender (coordinates p q)) (cond (sameEnds p q) (Refused 2) Accepted))

@@ -3,3 +3,4 @@ pub mod Stops
 pub mod Image
 pub mod Check
 pub mod Steps
+pub mod Answer

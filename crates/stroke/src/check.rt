@@ -1,7 +1,7 @@
 // What is tested before a stroke is walked.
 use types::Vec2;
 ghost use mathlib.Core.Path.{_≡_};
-ghost use Rattle.stroke.specs.Check.{sidesTooLarge, withinLimit, numberOf, firstOffender, sameEnds};
+ghost use Rattle.stroke.specs.Check.{sidesTooLarge, withinLimit, numberOf, firstOffender, sameEnds, acceptOf};
 
 // A coordinate that is refused, by the number of its refusal and its place in a list; or that there is none.
 pub enum Offender {
@@ -9,8 +9,15 @@ pub enum Offender {
     Found { number: u32, place: usize },
 }
 
+// Whether a stroke is walked, or the number of its refusal, with the place of the coordinate where one offends.
+pub enum Acceptance {
+    Accepted,
+    Refused(u32),
+    RefusedAt { number: u32, place: usize },
+}
+
 // A side above 16,384.
-pub fn sides_too_large(width: usize, height: usize) -> bool
+fn sides_too_large(width: usize, height: usize) -> bool
     ensures { λ r. ⌜ r ≡ sidesTooLarge width height ⌝ }
 {
     if 16384 < width {
@@ -54,11 +61,27 @@ pub fn first_offender(coordinates: &[f32]) -> Offender
 }
 
 // Equal as numbers: +0 equals -0.
-pub fn same_ends(p0: Vec2, p1: Vec2) -> bool
+fn same_ends(p0: Vec2, p1: Vec2) -> bool
     ensures { λ r. ⌜ r ≡ sameEnds p0 p1 ⌝ }
 {
     if p0.x == p1.x {
         return p0.y == p1.y;
     }
     false
+}
+
+// The image's sides are tested first, then the coordinates, then whether the ends are one point.
+pub fn accept(width: usize, height: usize, p0: Vec2, p1: Vec2) -> Acceptance
+    ensures { λ r. ⌜ r ≡ acceptOf width height p0 p1 ⌝ }
+{
+    if sides_too_large(width, height) {
+        return Acceptance::Refused(types::refusal::SIZE);
+    }
+    if let Offender::Found { number, place } = first_offender(&[p0.x, p0.y, p1.x, p1.y]) {
+        return Acceptance::RefusedAt { number, place };
+    }
+    if same_ends(p0, p1) {
+        return Acceptance::Refused(types::refusal::SAME_ENDS);
+    }
+    Acceptance::Accepted
 }

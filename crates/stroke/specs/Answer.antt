@@ -1,0 +1,11 @@
+-- What a routine answers of a stroke that may be refused. Definitions only.
+use Rattle.types.specs.declared.answer.Listed.{Listed}
+use Rattle.types.specs.declared.answer.Listed.the-variants.{Refused, RefusedAt}
+use Rattle.stroke.specs.declared.check.Acceptance.{Acceptance}
+use Rattle.stroke.specs.declared.check.Acceptance.the-variants.{Accepted, Refused as Denied, RefusedAt as DeniedAt}
+
+-- the refusal, and r if there is none
+unfoldable pub ifAccepted : Acceptance → Listed → Listed
+ifAccepted Accepted r = r
+ifAccepted (Denied number) r = Refused number
+ifAccepted (DeniedAt number place) r = RefusedAt number place
