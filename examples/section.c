@@ -160,6 +160,15 @@ int main(int argc, char **argv) {
     pixels = bgz_edge2_overlapping_pixels_dda(8, 8, high_left, low_right, list, 16);
     print_list("falling stroke", list, pixels.count);
 
+    /* Along a row to the right margin: the closing entry is the next row's first pixel, which the stroke does not cross. Without it all entries
+     * lie in the image. How many there are at most is known beforehand. */
+    bgz_vec2 in_row = {4.5f, 2.5f}, at_margin = {7.5f, 2.5f};
+    pixels = bgz_edge2_overlapping_pixels_dda(8, 8, in_row, at_margin, list, 16);
+    print_list("stroke to the margin", list, pixels.count);
+    pixels = bgz_edge2_pixels_inside(8, 8, in_row, at_margin, list, 16);
+    print_list("its pixels inside", list, pixels.count);
+    printf("entries at most: %zu\n", bgz_edge2_pixels_bound(8, 8, in_row, at_margin).count);
+
     /* A stroke to a point that is not there: refused, and the place tells which of the four coordinates it is. */
     bgz_vec2 nowhere = {NAN, 3.5f};
     pixels = bgz_edge2_overlapping_pixels_dda(8, 8, low_left, nowhere, list, 16);

@@ -298,7 +298,7 @@ typedef struct bgz_pixels_answer {
     size_t y1;        /* The row after the last. */
 } bgz_pixels_answer;
 
-/* How many entries were written. */
+/* How many entries: those written, or the most that there can be. */
 typedef struct bgz_count_answer {
     uint32_t status;
     size_t count;
@@ -520,8 +520,8 @@ bgz_float_answer bgz_edge2_ink(bgz_vec2 s, bgz_vec2 e, bgz_aabb2 b);
  * The first position outside the ranges enters likewise as a closing entry, a negative coordinate as 0. There is always
  * one, last: it is no pixel of the stroke, though it may name one of the image. The stroke's pixels are the entries
  * before it.
- * Writes the entries to the start of list and answers how many: at most one more than the longer of width and height,
- * so a list of that length is never too short.
+ * Writes the entries to the start of list and answers how many: never more than bgz_edge2_pixels_bound answers, so a
+ * list of that length is never too short.
  * Refused: BGZ_REFUSED_SIZE if width or height is above 16,384; of the coordinates p0.x, p0.y, p1.x, p1.y the first
  * that offends decides: BGZ_REFUSED_NOT_FINITE if it is not finite, BGZ_REFUSED_COORDINATE if it is above 65,536 in
  * size; BGZ_REFUSED_SAME_ENDS if p0 equals p1; BGZ_REFUSED_ROOM if list is shorter than the entries.
@@ -531,6 +531,35 @@ bgz_float_answer bgz_edge2_ink(bgz_vec2 s, bgz_vec2 e, bgz_aabb2 b);
  */
 bgz_count_answer bgz_edge2_overlapping_pixels_dda(size_t width, size_t height, bgz_vec2 p0, bgz_vec2 p1, uint32_t *list,
                                                   size_t list_length);
+
+/*
+ * The pixels under the stroke from p0 to p1, in an image of width by height pixels; a side may be 0. They are the
+ * entries of bgz_edge2_overlapping_pixels_dda without the closing one, so that each is a pixel of the image, below
+ * width * height.
+ * Writes the entries to the start of list and answers how many: always fewer than bgz_edge2_pixels_bound answers, so a
+ * list that is shorter than that by one is never too short.
+ * Refused: BGZ_REFUSED_SIZE if width or height is above 16,384; of the coordinates p0.x, p0.y, p1.x, p1.y the first
+ * that offends decides: BGZ_REFUSED_NOT_FINITE if it is not finite, BGZ_REFUSED_COORDINATE if it is above 65,536 in
+ * size; BGZ_REFUSED_SAME_ENDS if p0 equals p1; BGZ_REFUSED_ROOM if list is shorter than the entries.
+ * Place: that of bgz_edge2_overlapping_pixels_dda.
+ * Example: 8, 4, (1.5, 1.5), (3.5, 1.5), [0; 6] gives 3 and leaves [9, 10, 11, 0, 0, 0].
+ */
+bgz_count_answer bgz_edge2_pixels_inside(size_t width, size_t height, bgz_vec2 p0, bgz_vec2 p1, uint32_t *list,
+                                         size_t list_length);
+
+/*
+ * How many entries the stroke from p0 to p1 makes at most in an image of width by height pixels, the closing one among
+ * them: 2 * D + 2, or one more than the longer of width and height if that is less. D is the larger of the differences
+ * between the ends in x and in y, exact and not as floats round it, then rounded up to a whole number. A list of this
+ * length is never too short for bgz_edge2_overlapping_pixels_dda, and one that is shorter by one never for
+ * bgz_edge2_pixels_inside.
+ * Refused: BGZ_REFUSED_SIZE if width or height is above 16,384; of the coordinates p0.x, p0.y, p1.x, p1.y the first
+ * that offends decides: BGZ_REFUSED_NOT_FINITE if it is not finite, BGZ_REFUSED_COORDINATE if it is above 65,536 in
+ * size; BGZ_REFUSED_SAME_ENDS if p0 equals p1.
+ * Place: that of bgz_edge2_overlapping_pixels_dda.
+ * Example: 64, 64, (0, 0), (2.5, 1) gives 8.
+ */
+bgz_count_answer bgz_edge2_pixels_bound(size_t width, size_t height, bgz_vec2 p0, bgz_vec2 p1);
 
 /* ---- aabb: upright boxes: clipping lines, and what is inside. */
 

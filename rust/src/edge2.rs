@@ -149,6 +149,19 @@ mod raw {
             list: *mut u32,
             list_length: usize,
         ) -> CountAnswer;
+
+        #[link_name = "bgz_edge2_pixels_inside"]
+        pub fn pixels_inside(
+            width: usize,
+            height: usize,
+            p0: Vec2,
+            p1: Vec2,
+            list: *mut u32,
+            list_length: usize,
+        ) -> CountAnswer;
+
+        #[link_name = "bgz_edge2_pixels_bound"]
+        pub safe fn pixels_bound(width: usize, height: usize, p0: Vec2, p1: Vec2) -> CountAnswer;
     }
 }
 
@@ -211,8 +224,9 @@ pub fn ink(s: Vec2, e: Vec2, b: Aabb2) -> Result<f32, Refusal> {
 /// always one, last: it is no pixel of the stroke, though it may name one of the image. The
 /// stroke's pixels are the entries before it.
 ///
-/// Writes the entries to the start of `list` and answers how many: at most one more than the longer
-/// of `width` and `height`, so a list of that length is never too short.
+/// Writes the entries to the start of `list` and answers how many: never more than
+/// [`edge2::pixels_bound`](crate::edge2::pixels_bound) answers, so a list of that length is never
+/// too short.
 ///
 /// # Errors
 ///
@@ -248,4 +262,78 @@ pub fn overlapping_pixels_dda(
         raw::overlapping_pixels_dda(width, height, p0, p1, list.as_mut_ptr(), list.len())
     };
     a.result_at(&[Refusal::COORDINATE, Refusal::NOT_FINITE])
+}
+
+/// The pixels under the stroke from `p0` to `p1`, in an image of `width` by `height` pixels; a side
+/// may be 0. They are the entries of
+/// [`edge2::overlapping_pixels_dda`](crate::edge2::overlapping_pixels_dda) without the closing one,
+/// so that each is a pixel of the image, below `width` * `height`.
+///
+/// Writes the entries to the start of `list` and answers how many: always fewer than
+/// [`edge2::pixels_bound`](crate::edge2::pixels_bound) answers, so a list that is shorter than that
+/// by one is never too short.
+///
+/// # Errors
+///
+/// [`Refusal::SIZE`] if `width` or `height` is above 16,384; of the coordinates `p0.x`, `p0.y`,
+/// `p1.x`, `p1.y` the first that offends decides: [`Refusal::NOT_FINITE`] if it is not finite,
+/// [`Refusal::COORDINATE`] if it is above 65,536 in size; [`Refusal::SAME_ENDS`] if `p0` equals
+/// `p1`; [`Refusal::ROOM`] if `list` is shorter than the entries.
+///
+/// Place: that of [`edge2::overlapping_pixels_dda`](crate::edge2::overlapping_pixels_dda).
+///
+/// # Example
+///
+/// ```
+/// use bagnoszyk::{Vec2, edge2};
+///
+/// let p0 = Vec2 { x: 1.5, y: 1.5 };
+/// let p1 = Vec2 { x: 3.5, y: 1.5 };
+/// let mut list: [u32; 6] = [0; 6];
+/// assert_eq!(edge2::pixels_inside(8, 4, p0, p1, &mut list), Ok(3));
+/// assert_eq!(list, [9, 10, 11, 0, 0, 0]);
+/// ```
+#[inline]
+pub fn pixels_inside(
+    width: usize,
+    height: usize,
+    p0: Vec2,
+    p1: Vec2,
+    list: &mut [u32],
+) -> Result<usize, RefusalAt> {
+    let a = unsafe {
+        // SAFETY: each list is lent for the call alone, by its start and its length.
+        raw::pixels_inside(width, height, p0, p1, list.as_mut_ptr(), list.len())
+    };
+    a.result_at(&[Refusal::COORDINATE, Refusal::NOT_FINITE])
+}
+
+/// How many entries the stroke from `p0` to `p1` makes at most in an image of `width` by `height`
+/// pixels, the closing one among them: 2 * D + 2, or one more than the longer of `width` and
+/// `height` if that is less. D is the larger of the differences between the ends in x and in y,
+/// exact and not as floats round it, then rounded up to a whole number. A list of this length is
+/// never too short for [`edge2::overlapping_pixels_dda`](crate::edge2::overlapping_pixels_dda), and
+/// one that is shorter by one never for [`edge2::pixels_inside`](crate::edge2::pixels_inside).
+///
+/// # Errors
+///
+/// [`Refusal::SIZE`] if `width` or `height` is above 16,384; of the coordinates `p0.x`, `p0.y`,
+/// `p1.x`, `p1.y` the first that offends decides: [`Refusal::NOT_FINITE`] if it is not finite,
+/// [`Refusal::COORDINATE`] if it is above 65,536 in size; [`Refusal::SAME_ENDS`] if `p0` equals
+/// `p1`.
+///
+/// Place: that of [`edge2::overlapping_pixels_dda`](crate::edge2::overlapping_pixels_dda).
+///
+/// # Example
+///
+/// ```
+/// use bagnoszyk::{Vec2, edge2};
+///
+/// let p0 = Vec2 { x: 0.0, y: 0.0 };
+/// let p1 = Vec2 { x: 2.5, y: 1.0 };
+/// assert_eq!(edge2::pixels_bound(64, 64, p0, p1), Ok(8));
+/// ```
+#[inline]
+pub fn pixels_bound(width: usize, height: usize, p0: Vec2, p1: Vec2) -> Result<usize, RefusalAt> {
+    raw::pixels_bound(width, height, p0, p1).result_at(&[Refusal::COORDINATE, Refusal::NOT_FINITE])
 }

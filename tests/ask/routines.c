@@ -222,6 +222,25 @@ static void edge2_overlapping_pixels_dda(const struct arguments *in, struct answ
     out->values[0].u = r.count;
 }
 
+static void edge2_pixels_inside(const struct arguments *in, struct answer *out) {
+    const float *f = in->floats;
+    const uint64_t *u = in->wholes;
+    bgz_count_answer r = bgz_edge2_pixels_inside(
+        u[0], u[1], (bgz_vec2){f[0], f[1]}, (bgz_vec2){f[2], f[3]}, in->lists[0].start, in->lists[0].length);
+    out->status = r.status;
+    out->place = r.place;
+    out->values[0].u = r.count;
+}
+
+static void edge2_pixels_bound(const struct arguments *in, struct answer *out) {
+    const float *f = in->floats;
+    const uint64_t *u = in->wholes;
+    bgz_count_answer r = bgz_edge2_pixels_bound(u[0], u[1], (bgz_vec2){f[0], f[1]}, (bgz_vec2){f[2], f[3]});
+    out->status = r.status;
+    out->place = r.place;
+    out->values[0].u = r.count;
+}
+
 static void aabb_intersections_against_line(const struct arguments *in, struct answer *out) {
     const float *f = in->floats;
     bgz_interval_answer r = bgz_aabb_intersections_against_line(
@@ -850,6 +869,10 @@ const struct routine routines[] = {
      "s.x s.y e.x e.y b.min_x b.min_y b.max_x b.max_y", 0},
     {"edge2.overlapping_pixels_dda", CALL(edge2_overlapping_pixels_dda), "uuffffr", "u", "l",
      "width height p0.x p0.y p1.x p1.y room", AT(COORDINATE) | AT(NOT_FINITE)},
+    {"edge2.pixels_inside", CALL(edge2_pixels_inside), "uuffffr", "u", "l",
+     "width height p0.x p0.y p1.x p1.y room", AT(COORDINATE) | AT(NOT_FINITE)},
+    {"edge2.pixels_bound", CALL(edge2_pixels_bound), "uuffff", "", "u",
+     "width height p0.x p0.y p1.x p1.y", AT(COORDINATE) | AT(NOT_FINITE)},
     {"aabb.line", CALL(aabb_intersections_against_line), "ffffffff", "", "ff",
      "b.min_x b.min_y b.max_x b.max_y origin.x origin.y direction.x direction.y", 0},
     {"aabb.ray", CALL(aabb_intersections_against_ray), "ffffffff", "", "ff",

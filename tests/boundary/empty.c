@@ -30,6 +30,8 @@ int main(void) {
     expect("tiles", bgz_aabb2_overlapping_tiles(box, 1, 4, 4, NULL, 0).status, BGZ_REFUSED_ROOM);
     expect("no tiles", bgz_aabb2_overlapping_tiles(box, 1, 0, 0, NULL, 0).status, BGZ_ANSWERED);
     expect("stroke", bgz_edge2_overlapping_pixels_dda(4, 4, low, high, NULL, 0).status, BGZ_REFUSED_ROOM);
+    expect("stroke inside", bgz_edge2_pixels_inside(4, 4, low, high, NULL, 0).status, BGZ_REFUSED_ROOM);
+    expect("stroke outside", bgz_edge2_pixels_inside(0, 0, low, high, NULL, 0).status, BGZ_ANSWERED);
     expect("no bytes", bgz_hatch_read_floats(NULL, 0, NULL, 0).status, BGZ_REFUSED_MARK);
     expect("floats", bgz_hatch_read_floats(none, sizeof none, NULL, 0).status, BGZ_ANSWERED);
     expect("patterns", bgz_hatch_read_patterns(none, sizeof none, NULL, 0).status, BGZ_ANSWERED);

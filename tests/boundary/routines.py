@@ -121,13 +121,17 @@ class Call:
     def request(self):
         """The name in requests, as C text. The report is text, and is asked for by the program hatch_clip."""
         name = NAMES.get(self.function.symbol, f"{self.function.module}.{self.function.name}")
-        return f'"{name}"' if "b" not in self.lists or self.function.result in WRITTEN else "NULL"
+        return f'"{name}"' if "b" not in self.lists or self.written else "NULL"
+
+    @property
+    def written(self):
+        """The letter for what the answer tells of the first list, where there is one."""
+        return WRITTEN.get(self.function.result) if self.lists else None
 
     @property
     def gives(self):
         letters = "".join(letter for _, letter in self.values)
-        written = WRITTEN.get(self.function.result)
-        return letters[:-1] + written if written else letters
+        return letters[:-1] + self.written if self.written else letters
 
     @property
     def places(self):

@@ -85,7 +85,7 @@ pub struct PixelsAnswer {
     pub y1: usize,
 }
 
-// How many entries were written.
+// How many entries: those written, or the most that there can be.
 #[repr(C)]
 pub struct CountAnswer {
     pub status: u32,

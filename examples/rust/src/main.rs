@@ -128,6 +128,15 @@ fn run(bytes: &[u8]) -> Result<(), RefusalAt> {
         print_list(&format!("{kind} stroke"), &list[..count]);
     }
 
+    // Along a row to the right margin: the closing entry is the next row's first pixel, which the stroke does not cross. Without it all entries
+    // lie in the image. How many there are at most is known beforehand.
+    let (in_row, at_margin) = (Vec2 { x: 4.5, y: 2.5 }, Vec2 { x: 7.5, y: 2.5 });
+    let count = edge2::overlapping_pixels_dda(8, 8, in_row, at_margin, &mut list)?;
+    print_list("stroke to the margin", &list[..count]);
+    let count = edge2::pixels_inside(8, 8, in_row, at_margin, &mut list)?;
+    print_list("its pixels inside", &list[..count]);
+    println!("entries at most: {}", edge2::pixels_bound(8, 8, in_row, at_margin)?);
+
     // A stroke to a point that is not there: refused, and the place tells which of the four coordinates it is.
     let (start, nowhere) = (Vec2 { x: 0.5, y: 0.5 }, Vec2 { x: f32::NAN, y: 3.5 });
     if let Err(RefusalAt { refusal, place: Some(place) }) =

@@ -1,10 +1,11 @@
-//! Random inputs for each routine, the places of refusals, every exact root, hatch lists written and read, reports on them, and the tiles by
-//! brute force.
+//! Random inputs for each routine, the places of refusals, strokes along margins, every exact root, hatch lists written and read, reports on
+//! them, and the tiles by brute force.
 
 use crate::cover;
 use crate::figures;
 use crate::hatch;
 use crate::inputs::Inputs;
+use crate::margins;
 use crate::options::Options;
 use crate::pairs::pairs;
 use crate::places;
@@ -29,6 +30,7 @@ pub fn run(options: &Options) -> Result<(), String> {
     println!("{} routines, {total} inputs, no difference, seed {}", pairs.len(), options.seed);
     if options.only.is_empty() {
         places::run()?;
+        margins::run(options.seed, count / 10)?;
         squares::run()?;
         saved::run(options.seed, count)?;
         hatch::run(options.seed, count)?;

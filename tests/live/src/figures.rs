@@ -41,8 +41,10 @@ fn twins(figure: &Figure) -> Result<Vec<Figure>, String> {
             "aabb.line" | "aabb.lines" | "aabb.ray" | "aabb_3.line" | "aabb_3.ray" => {
                 figure.answer.clone()
             }
-            // A stroke is mirrored within its bounds: other pixels, which the Rust tells.
-            "edge2.overlapping_pixels_dda" => pair.rust_line(&twin)?,
+            // A stroke is mirrored within its bounds: the judge tells the answer.
+            "edge2.overlapping_pixels_dda" | "edge2.pixels_inside" | "edge2.pixels_bound" => {
+                pair.rust_line(&twin)?
+            }
             _ => continue,
         };
         twins.push(Figure { request: pair.routine.request(&twin), answer });

@@ -4,6 +4,7 @@ mod aabb;
 mod aabb2;
 mod aabb3;
 mod aabb_3;
+mod difference;
 mod edge2;
 mod f32;
 mod hatch;

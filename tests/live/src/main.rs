@@ -9,6 +9,7 @@ mod figures;
 mod hatch;
 mod inputs;
 mod judge;
+mod margins;
 mod options;
 mod pairs;
 mod places;
@@ -23,7 +24,7 @@ use std::env;
 use std::process::ExitCode;
 
 const USAGE: &str = "usage: live MODE [--seed S] [--count N] [--only PREFIX]
-  compare  random inputs for each routine, hatch lists, and every exact root: the library against the judge
+  compare  random inputs for each routine, strokes along margins, hatch lists, and every exact root: the library against the judge
   all      all 4294967296 inputs of each routine of one float: the library against the judge
   cover    the tiles listed against their definition, by brute force on small sheets
   vectors  print requests with the Rust's answers

@@ -25,7 +25,9 @@ const EXAMPLES: [[f32; 16]; 2] = [
 
 pub fn run() -> Result<(), String> {
     let strokes = strokes()?;
-    println!("edge2.overlapping_pixels_dda {strokes} strokes at the limits, no difference");
+    println!(
+        "edge2.overlapping_pixels_dda, edge2.pixels_inside, edge2.pixels_bound {strokes} strokes at the limits each, no difference"
+    );
     let files =
         EXAMPLES.iter().map(|floats| files(&hatch_list(floats))).sum::<Result<usize, _>>()?;
     println!(
@@ -37,14 +39,17 @@ pub fn run() -> Result<(), String> {
 /// Each of the coordinates at each of the four places, with every other at the others; in an image that is taken and in one that is not, with
 /// room and without.
 fn strokes() -> Result<usize, String> {
-    let pair = named("edge2.overlapping_pixels_dda")?;
+    let walks = [named("edge2.overlapping_pixels_dda")?, named("edge2.pixels_inside")?];
+    let bound = named("edge2.pixels_bound")?;
     let mut count = 0;
     for number in 0..8usize.pow(4) {
         let floats = (0..4).map(|place| COORDINATES[number >> (3 * place) & 7]).collect();
         let mut args = Args { floats, ..Args::default() };
         for wholes in [[8, 8, 9], [8, 8, 0], [8, 16_385, 9]] {
             args.wholes = wholes.to_vec();
-            pair.compare(&args)?;
+            walks.iter().try_for_each(|walk| walk.compare(&args))?;
+            args.wholes.pop();
+            bound.compare(&args)?;
             count += 1;
         }
     }

@@ -34,6 +34,8 @@ pub enum Kind {
     Lines,
     /// Width and height of an image, two ends, room.
     Stroke,
+    /// Width and height of an image, two ends.
+    Ends,
     /// A box, the size of a tile, width and height of a sheet, room.
     Tiles,
     /// Room, and the bytes of a hatch list.
@@ -60,6 +62,7 @@ impl Kind {
             Kind::Floats => "F",
             Kind::Lines | Kind::Records => "rF",
             Kind::Stroke => "uuffffr",
+            Kind::Ends => "uuffff",
             Kind::Tiles => "ffffuuur",
             Kind::File => "rB",
             Kind::Bits => "rP",
@@ -76,7 +79,7 @@ impl Kind {
     fn dimensions(self) -> usize {
         use Kind::*;
         match self {
-            Point | Direction | Box | TurnedBox | Lines | Stroke | Tiles => 2,
+            Point | Direction | Box | TurnedBox | Lines | Stroke | Ends | Tiles => 2,
             Point3 | Direction3 | Box3 | TurnedBox3 => 3,
             _ => 0,
         }
@@ -87,10 +90,10 @@ impl Kind {
         use Kind::*;
         let dimensions = self.dimensions();
         // A stroke is mirrored within its own bounding box, so that it stays in the image.
-        if dimensions != 0 && self != Stroke {
+        if dimensions != 0 && !matches!(self, Stroke | Ends) {
             floats.iter_mut().skip(axis).step_by(dimensions).for_each(|x| *x = -*x);
         }
-        if matches!(self, Box | Box3 | Tiles | Stroke) {
+        if matches!(self, Box | Box3 | Tiles | Stroke | Ends) {
             floats.swap(axis, axis + dimensions);
         }
     }

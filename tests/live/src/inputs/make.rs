@@ -79,7 +79,9 @@ fn arrange(kind: Kind, floats: &mut [f32], random: &mut Random) {
             [floats[2], floats[5], floats[8]] = [0.0, 0.0, corner];
         }
         // In the quadrant of the image.
-        Kind::Stroke if !random.one_in(4) => floats.iter_mut().for_each(|x| *x = x.abs()),
+        Kind::Stroke | Kind::Ends if !random.one_in(4) => {
+            floats.iter_mut().for_each(|x| *x = x.abs())
+        }
         _ => {}
     }
 }
@@ -98,6 +100,7 @@ fn add_wholes(kind: Kind, floats: &[f32], random: &mut Random, numbers: &mut Vec
         Kind::Corner => numbers.push(wholes::any(10, random)),
         Kind::Lines => numbers.push(room_for(floats.len() as u64 / 4 * 3, random)),
         Kind::Stroke => numbers.extend([side(random), side(random), room(random)]),
+        Kind::Ends => numbers.extend([side(random), side(random)]),
         Kind::Tiles => {
             let size = tile_size(floats, random);
             numbers.extend([size, side(random), side(random), room(random)]);

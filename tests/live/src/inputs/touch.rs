@@ -1,4 +1,4 @@
-//! Boxes that touch, and boxes one ulp off.
+//! Boxes that touch, ends a whole number apart, and both one ulp off.
 
 mod space;
 
@@ -6,17 +6,26 @@ use super::Kind;
 use super::floats::neighbour;
 use crate::random::Random;
 
-/// Puts the second of two boxes beside the first, and in space a point or a line on a face of the box. Other arguments stay as they are.
+/// Puts the second of two boxes beside the first, in space a point or a line on a face of the box, and the second end of a stroke a whole number
+/// away from the first. Other arguments stay as they are.
 pub fn touch(shape: &[Kind], floats: &mut [f32], random: &mut Random) {
     match shape {
         [Kind::TurnedBox, Kind::TurnedBox] => beside(floats, random),
         [Kind::TurnedBox, Kind::Box] => upright_beside(floats, random),
+        [Kind::Ends] => whole_apart(floats, random),
         [Kind::TurnedBox3, Kind::TurnedBox3] => space::turned_boxes(floats, random),
         [Kind::TurnedBox3, Kind::Point3, ..] => space::point_of_turned_box(floats, random),
         [Kind::Box3, Kind::Box3, ..] => space::boxes(floats, random),
         [Kind::Box3, Kind::Point3, Kind::Direction3] => space::line_through_box(floats, random),
         [Kind::Box3, Kind::Point3, ..] => space::point_of_box(floats, random),
         _ => {}
+    }
+}
+
+/// In each coordinate, or one ulp off. For some of these the exact difference, rounded up, is one more than the float difference, rounded up.
+fn whole_apart(floats: &mut [f32], random: &mut Random) {
+    for i in 0..2 {
+        floats[2 + i] = near(floats[i] + random.around_zero(100) as f32, random);
     }
 }
 

@@ -1,9 +1,9 @@
 //! edge2.rs
 
-use super::{Row, limits, row};
+use super::{Row, difference, limits, row};
 use crate::answer::{Answer, Refused};
 use crate::ask::Args;
-use crate::inputs::Kind::{Box, Float, Point, Stroke};
+use crate::inputs::Kind::{Box, Ends, Float, Point, Stroke};
 use del_geo_core::edge2;
 
 pub const ROWS: &[Row] = &[
@@ -28,7 +28,12 @@ pub const ROWS: &[Row] = &[
     }),
     row("edge2.intersection_length_against_aabb2", &[Point, Point, Box], length_in_box)
         .panic_is(limits::ORDER),
-    row("edge2.overlapping_pixels_dda", &[Stroke], |a| stroke(a).into()),
+    row("edge2.overlapping_pixels_dda", &[Stroke], |a| {
+        stroke(a).and_then(|es| listed(es, a)).into()
+    }),
+    // Document 02: the same without the closing entry, and how many entries there are at most.
+    row("edge2.pixels_inside", &[Stroke], |a| inside(a).and_then(|es| listed(es, a)).into()),
+    row("edge2.pixels_bound", &[Ends], |a| bound(a).into()),
     row("edge2.ratio_from_position", &[Point, Point, Point], |a| {
         edge2::ratio_from_position(&a.fs(0), &a.fs(2), &a.fs(4)).into()
     }),
@@ -44,10 +49,28 @@ fn length_in_box(a: &Args) -> Answer {
     edge2::intersection_length_against_aabb2(&a.fs(0), &a.fs(2), &a.fs(4)).into()
 }
 
-fn stroke(a: &Args) -> Result<Vec<u32>, Refused> {
+fn stroke(a: &Args) -> Result<Vec<usize>, Refused> {
     limits::stroke(a.u(0), a.u(1), &a.fs(0))?;
     let image = (a.u(0) as usize, a.u(1) as usize);
-    let entries = edge2::overlapping_pixels_dda::<f32>(image, &a.fs(0), &a.fs(2));
+    Ok(edge2::overlapping_pixels_dda::<f32>(image, &a.fs(0), &a.fs(2)))
+}
+
+/// The Rust's entries without the last.
+fn inside(a: &Args) -> Result<Vec<usize>, Refused> {
+    let mut entries = stroke(a)?;
+    entries.pop();
+    Ok(entries)
+}
+
+fn listed(entries: Vec<usize>, a: &Args) -> Result<Vec<u32>, Refused> {
     limits::room(entries.len(), a.u(2))?;
     Ok(entries.into_iter().map(|entry| entry.try_into().unwrap()).collect())
+}
+
+/// By the ends and by the sides of the image, the lesser.
+fn bound(a: &Args) -> Result<u64, Refused> {
+    let ends @ [x0, y0, x1, y1] = a.fs(0);
+    limits::stroke(a.u(0), a.u(1), &ends)?;
+    let larger = difference::rounded_up(x0, x1).max(difference::rounded_up(y0, y1));
+    Ok((2 * larger + 2).min(a.u(0).max(a.u(1)) + 1))
 }

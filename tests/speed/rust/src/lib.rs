@@ -80,6 +80,23 @@ pub unsafe extern "C" fn overlapping_pixels_dda(
 }
 
 /// # Safety
+/// The list starts at `list` and has room for every entry but the last.
+#[inline(never)]
+pub unsafe extern "C" fn pixels_inside(
+    width: usize,
+    height: usize,
+    p0: Vec2,
+    p1: Vec2,
+    list: *mut u32,
+    room: usize,
+) -> CountAnswer {
+    let entries = edge2::overlapping_pixels_dda::<f32>((width, height), &p0.into(), &p1.into());
+    let entries = &entries[..entries.len() - 1];
+    let list = unsafe { std::slice::from_raw_parts_mut(list, room) };
+    copied(entries.iter().copied(), entries.len(), list)
+}
+
+/// # Safety
 /// The list starts at `list` and has room for every tile.
 #[inline(never)]
 pub unsafe extern "C" fn overlapping_tiles(

@@ -27,7 +27,9 @@ pub fn cases() -> Vec<Case> {
         {
             for (room, list) in [(Room::Ample, "ample list"), (Room::Exact, "exact list")] {
                 let name = format!("stroke: {pixels} pixels, {place}, {list}");
-                cases.push(stroke(&name, strokes(pixels, at), pixels, room).goal(1.0));
+                cases.push(stroke::<true>(&name, strokes(pixels, at), pixels, room).goal(1.0));
+                let name = format!("stroke, no closing entry: {pixels} pixels, {place}, {list}");
+                cases.push(stroke::<false>(&name, strokes(pixels, at), pixels, room).goal(1.0));
             }
         }
     }
@@ -39,7 +41,7 @@ pub fn sized() -> Vec<Sized> {
     [10, 100, 1000, 10000, 100000]
         .map(|pixels| {
             let strokes = strokes(pixels, inside(pixels));
-            Sized::new("stroke: a pixel", stroke("size", strokes, pixels, Room::Ample))
+            Sized::new("stroke: a pixel", stroke::<true>("size", strokes, pixels, Room::Ample))
         })
         .into()
 }
@@ -68,12 +70,18 @@ fn strokes(pixels: usize, at: f32) -> Vec<Stroke> {
     strokes
 }
 
-fn stroke(name: &str, strokes: Vec<Stroke>, pixels: usize, room: Room) -> Case {
+/// With the closing entry, or without it: the Rust's walk is the same, and its last entry is left out. Each is compiled for itself.
+fn stroke<const CLOSING: bool>(
+    name: &str,
+    strokes: Vec<Stroke>,
+    pixels: usize,
+    room: Room,
+) -> Case {
     let lent = |(p0, p1)| {
         let mut list = vec![0; 2 * pixels + 2];
-        let count = library(p0, p1, &mut list);
+        let count = library::<CLOSING>(p0, p1, &mut list);
         let mut other = vec![0; count];
-        assert_eq!(rust(p0, p1, &mut other), count, "{name}");
+        assert_eq!(rust::<CLOSING>(p0, p1, &mut other), count, "{name}");
         assert_eq!(list[..count], other, "{name}");
         if let Room::Exact = room {
             list.truncate(count);
@@ -83,17 +91,23 @@ fn stroke(name: &str, strokes: Vec<Stroke>, pixels: usize, room: Room) -> Case {
     let case = calls(
         name,
         strokes.into_iter().map(lent).collect(),
-        |(p0, p1, list)| library(*p0, *p1, &mut list.borrow_mut()),
-        |(p0, p1, list)| rust(*p0, *p1, &mut list.borrow_mut()),
+        |(p0, p1, list)| library::<CLOSING>(*p0, *p1, &mut list.borrow_mut()),
+        |(p0, p1, list)| rust::<CLOSING>(*p0, *p1, &mut list.borrow_mut()),
     );
     Case { units: case.units * pixels, ..case }
 }
 
-fn library(p0: Vec2, p1: Vec2, list: &mut [u32]) -> usize {
-    edge2::overlapping_pixels_dda(SIDE, SIDE, p0, p1, list).unwrap()
+fn library<const CLOSING: bool>(p0: Vec2, p1: Vec2, list: &mut [u32]) -> usize {
+    if CLOSING {
+        return edge2::overlapping_pixels_dda(SIDE, SIDE, p0, p1, list).unwrap();
+    }
+    edge2::pixels_inside(SIDE, SIDE, p0, p1, list).unwrap()
 }
 
-fn rust(p0: Vec2, p1: Vec2, list: &mut [u32]) -> usize {
+fn rust<const CLOSING: bool>(p0: Vec2, p1: Vec2, list: &mut [u32]) -> usize {
     let (start, room) = (list.as_mut_ptr(), list.len());
-    unsafe { rust_abi::overlapping_pixels_dda(SIDE, SIDE, p0, p1, start, room) }.count
+    if CLOSING {
+        return unsafe { rust_abi::overlapping_pixels_dda(SIDE, SIDE, p0, p1, start, room) }.count;
+    }
+    unsafe { rust_abi::pixels_inside(SIDE, SIDE, p0, p1, start, room) }.count
 }
