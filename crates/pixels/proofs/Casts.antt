@@ -1,21 +1,16 @@
--- The casts: a side to a float, and a coordinate cut to an integer by the test `x < 0.0`. Assumes nothing.
+-- A coordinate cut to an integer by the test `x < 0.0`. Assumes nothing.
 use mathlib.Core.Path.{_≡_, refl}
 use mathlib.Core.Bool.{true, false}
-use Prim.Native.Nat.{ℕ, _+_, _*_, _/_, _^_, _≤_, _<_, zero-le}
-use native.Mathlib.Nat.{le-trans, mul-one, div-lt-iff-lt-mul}
+use Prim.Native.Nat.{_+_, _*_, _/_, _^_, _≤_, _<_, zero-le}
+use native.Mathlib.Nat.{mul-one, div-lt-iff-lt-mul}
 use native.Mathlib.Omega.{arith}
 use borrow.Author.Tests.{ltb-true, ltb-false}
-use lib.Dec.{T, le→leb, lt→ltb, lit≤}
+use lib.Dec.{T, lt→ltb}
 use lib.IntN.{pos}
-use lib.Ieee.{Float, nan, inf, fin, binary32, up, down, lt, inFloat, toUnsigned, ofBits}
+use lib.Ieee.{Float, nan, inf, fin, up, down, lt, toUnsigned, ofBits}
 use lib.Ieee.Fits.{down-pos}
 use Rattle.float.specs.Rounded.{+0}
 use Rattle.rounded.specs.Size.{Size}
-
--- a side is an f32
-pub side-float : (n : ℕ) → n ≤ 16384 → T (inFloat binary32 (pos n))
-unfolding inFloat
-side-float n h = le→leb n (2 ^ 24) (le-trans h (lit≤ tt))
 
 pub cut-low : (x : Float) → Size 196610 x → lt x +0 ≡ true → toUnsigned 64 x ≡ 0
 unfolding lt toUnsigned ofBits

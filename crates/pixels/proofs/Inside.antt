@@ -11,6 +11,7 @@ use lib.Ieee.{Float, nan, inf, fin, binary32, up, down, lt, le, ofInt, toUnsigne
 use lib.Ieee.Fits.{down-pos}
 use Rattle.types.specs.declared.shape.Vec2.{Vec2}
 use Rattle.float.specs.Rounded.{+0}
+use Rattle.float.proofs.Casts.{of-int}
 use Rattle.lists.specs.Lent.{written}
 use Rattle.rounded.proofs.Step.{base, Past}
 use Rattle.rounded.proofs.Down.{both, Left, on-side}
@@ -18,7 +19,6 @@ use Rattle.stroke.specs.Walk.{exit, position, positions, alongX, alongY}
 use Rattle.stroke.specs.Image.{onSide, inSides, onImage, oneIf}
 use Rattle.pixels.specs.Entries.{number, keepIf, kept, pixels, entries, strokeOf}
 use Rattle.pixels.proofs.Writing.{closed-length}
-use Rattle.pixels.proofs.Sides.{side-value}
 
 -- what lies on a side is below it when it is cut
 cut-below : (w : ℕ) (x : Float) → Past base x → Left w 0 x → toUnsigned 64 x < w
@@ -35,7 +35,7 @@ unfolding onSide
 cut-on-side w wide x t =
     let side = ofInt binary32 (pos w) in
     let b = both (le +0 x) (lt x side) t in
-    let o = on-side w x side (side-value w wide) (b .0) (b .1) in
+    let o = on-side w x side (of-int w wide) (b .0) (b .1) in
     cut-below w x (o .0) (o .1)
 
 module _ (w h : ℕ) (wide : w ≤ 2 ^ 24) (high : h ≤ 2 ^ 24) where

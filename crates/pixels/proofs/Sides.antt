@@ -1,15 +1,14 @@
 -- A stroke makes one entry at most for each column of the image, or for each row, and the closing one. Assumes nothing.
 use mathlib.Core.Path.{_≡_, ap}
-use mathlib.Core.Bool.{Bool, true, false}
+use mathlib.Core.Bool.{Bool, true}
 use mathlib.Core.Logic.{inl, inr}
-use Prim.Native.Nat.{ℕ, _^_, _≤_, max}
+use Prim.Native.Nat.{ℕ, _≤_, max}
 use native.Mathlib.Omega.{arith}
 use lib.IntN.{pos}
 use lib.ListN.{length}
 use lib.Ieee.{binary32, ofInt}
-use lib.Ieee.Back.{round-whole}
-use lib.Ieee.Exact.{HasValue}
 use Rattle.types.specs.declared.shape.Vec2.{Vec2}
+use Rattle.float.proofs.Casts.{of-int}
 use Rattle.rounded.proofs.Down.{both}
 use Rattle.stroke.specs.declared.axis.Axis.{Axis}
 use Rattle.stroke.specs.Walk.{axisOf, at, position, mostSteps, exit, positions, alongX, alongY}
@@ -22,10 +21,6 @@ use Rattle.pixels.specs.Entries.{entries, strokeOf}
 use Rattle.pixels.specs.Post.{entered}
 use Rattle.pixels.proofs.Lists.{entered-none, entered-more}
 use Rattle.pixels.proofs.Writing.{closed-length}
-
-pub side-value : (w : ℕ) → w ≤ 2 ^ 24 → HasValue (ofInt binary32 (pos w)) false w 1
-unfolding ofInt
-side-value w h = round-whole binary32 false w h
 
 module _ {p q : Vec2} (v : Accepted p q) (w h : ℕ) (wide : w ≤ 16384) (high : h ≤ 16384) where
   abbrev A : Axis
@@ -43,13 +38,13 @@ module _ {p q : Vec2} (v : Accepted p q) (w h : ℕ) (wide : w ≤ 16384) (high 
   entered-few k t = elim (major v) [
     | inl m ↦
         let l =
-        count-le (sized-x v) (unfold axisOf in (v .x0 .fit)) m w (ofInt binary32 (pos w)) (side-value w (omega arith))
+        count-le (sized-x v) (unfold axisOf in (v .x0 .fit)) m w (ofInt binary32 (pos w)) (of-int w (omega arith))
         (λ (i : ℕ). length (entered w h A B i)) (λ (i : ℕ). onImage w h (position A B i)) (ap length (entered-none w h A B)) (entered-more w h A B)
         (λ i e. on-sides i e .0) k t in
         omega arith
     | inr m ↦
         let l =
-        count-le (sized-y v) (unfold axisOf in (v .y0 .fit)) m h (ofInt binary32 (pos h)) (side-value h (omega arith))
+        count-le (sized-y v) (unfold axisOf in (v .y0 .fit)) m h (ofInt binary32 (pos h)) (of-int h (omega arith))
         (λ (i : ℕ). length (entered w h A B i)) (λ (i : ℕ). onImage w h (position A B i)) (ap length (entered-none w h A B)) (entered-more w h A B)
         (λ i e. on-sides i e .1) k t in
         omega arith

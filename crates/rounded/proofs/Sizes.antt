@@ -31,9 +31,10 @@ neg-size k nan h = h
 neg-size k (inf s) h = h
 neg-size k (fin s m e) h = h
 
-pub cond-size : (t : Bool) (k : ℕ) (x y : Float) → Size k x → Size k y → Size k (cond t y x)
-cond-size true k x y h i = i
-cond-size false k x y h i = h
+-- what holds of both holds of either, so of a minimum and a maximum
+pub cond-both : (P : Float → Type 0) (t : Bool) (x y : Float) → P x → P y → P (cond t y x)
+cond-both P true x y h i = i
+cond-both P false x y h i = h
 
 pub abs-size : (k : ℕ) (x : Float) → Size k x → Size k (absOf x)
 unfolding absOf

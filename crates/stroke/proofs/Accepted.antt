@@ -16,7 +16,7 @@ use Rattle.float.specs.Values.{absOf, minOf, maxOf}
 use Rattle.float.proofs.Tests.{neither}
 use Rattle.rounded.specs.Size.{Size}
 use Rattle.rounded.proofs.Round.{le-num}
-use Rattle.rounded.proofs.Sizes.{cond-size, abs-size, add-size, sub-size}
+use Rattle.rounded.proofs.Sizes.{cond-both, abs-size, add-size, sub-size}
 use Rattle.rounded.proofs.Apart.{NonZero, apart}
 use Rattle.rounded.proofs.Slopes.{Slopes, slopes}
 use Rattle.stroke.specs.Walk.{stepOf, axisOf, alongX, alongY}
@@ -145,8 +145,8 @@ unfolding axisOf minOf maxOf
 axis-sized step p q h k l = record {
   start-size = h;
   slope-size = l;
-  low-size = sub-size 65536 1 (minOf p q) epsilon (cond-size (isNan p || lt q p) 65536 p q h k) epsilon-size (lit≤ tt);
-  high-size = add-size 65536 1 (maxOf p q) epsilon (cond-size (isNan p || lt p q) 65536 p q h k) epsilon-size (lit≤ tt);
+  low-size = sub-size 65536 1 (minOf p q) epsilon (cond-both (Size 65536) (isNan p || lt q p) p q h k) epsilon-size (lit≤ tt);
+  high-size = add-size 65536 1 (maxOf p q) epsilon (cond-both (Size 65536) (isNan p || lt p q) p q h k) epsilon-size (lit≤ tt);
 }
 
 module _ {p q : Vec2} (w : Accepted p q) where
@@ -163,7 +163,7 @@ module _ {p q : Vec2} (w : Accepted p q) where
   step-size =
       let x = absOf (q .x ⊖ p .x) in
       let y = absOf (q .y ⊖ p .y) in
-      cond-size (isNan x || lt x y) 131072 x y
+      cond-both (Size 131072) (isNan x || lt x y) x y
       (abs-size 131072 (q .x ⊖ p .x) (difference-size (w .x0) (w .x1)))
       (abs-size 131072 (q .y ⊖ p .y) (difference-size (w .y0) (w .y1)))
 

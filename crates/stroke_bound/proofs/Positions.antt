@@ -1,7 +1,7 @@
 -- A walk has at most D + 2 positions, D being the exact larger difference of its ends, rounded up to a whole number. After k steps it is at least k
 -- past the whole part of its start, and the range ends at most D + 1 and a half past it. Assumes nothing.
 use mathlib.Core.Path.{_≡_, sym, _∙_}
-use mathlib.Core.Bool.{Bool, true, false, _||_, cond, true≢false}
+use mathlib.Core.Bool.{Bool, true, false, _||_, true≢false}
 use mathlib.Core.Logic.{inl, inr}
 use Prim.Native.Nat.{ℕ, zero, suc, _+_, _*_, _^_, _≤_, _<_, max}
 use native.Mathlib.Nat.{le-trans}
@@ -14,7 +14,7 @@ use lib.Ieee.Scale.{finite}
 use Rattle.types.specs.declared.shape.Vec2.{Vec2}
 use Rattle.float.specs.Values.{minOf, maxOf}
 use Rattle.rounded.specs.Size.{Size}
-use Rattle.rounded.proofs.Sizes.{neg-size, cond-size}
+use Rattle.rounded.proofs.Sizes.{neg-size, cond-both}
 use Rattle.rounded.proofs.Step.{Past, past-less, past-of-size, under-of-size, past-under, directed}
 use Rattle.rounded.proofs.Down.{both}
 use Rattle.rounded.proofs.Halves.{Half, half-wider, past-half, high-half, low-half, wholePart, past-whole, half-whole}
@@ -32,10 +32,6 @@ finite-of k (inf s) h = h
 finite-of k (fin s m e) h = tt
 
 -- ---- along one axis
-
-cond-both : (P : Float → Type 0) (b : Bool) (x y : Float) → P x → P y → P (cond b y x)
-cond-both P true x y h i = i
-cond-both P false x y h i = h
 
 past-none : (x : Float) → Size 65536 x → Past 0 x
 past-none x s = past-less 0 65536 x (omega arith) (past-of-size 65536 x (omega arith) s)
@@ -61,13 +57,13 @@ module _ (st p q : Float) (D : ℕ) (hp : Size 65536 p) (hq : Size 65536 q) (f :
   unfolding axisOf minOf maxOf
   reach-half false =
       let b = isNan p || lt p q in
-      high-half (maxOf p q) (halves D p) (cond-size b 65536 p q hp hq) (omega (arith, whole-top p hp))
+      high-half (maxOf p q) (halves D p) (cond-both (Size 65536) b p q hp hq) (omega (arith, whole-top p hp))
       (cond-both (Half (halves D p)) b p q (first-end D p q hp f) (second-end D p q hp f))
   reach-half true =
       let b = isNan p || lt q p in
       let np = neg-size 65536 p hp in
       let nf = far-neg D p q f in
-      low-half (minOf p q) (halves D (neg p)) (cond-size b 65536 p q hp hq) (omega (arith, whole-top (neg p) np))
+      low-half (minOf p q) (halves D (neg p)) (cond-both (Size 65536) b p q hp hq) (omega (arith, whole-top (neg p) np))
       (cond-both (λ (x : Float). Half (halves D (neg p)) (neg x)) b p q
       (first-end D (neg p) (neg q) np nf) (second-end D (neg p) (neg q) np nf))
 

@@ -12,9 +12,9 @@ use lib.Dec.{T, ltb, lit≤}
 use lib.Ieee.{Float, nan, inf, fin, binary32, up, down, below, neg, sub, add, lt, fits, toUnsigned, ofInt}
 use lib.Ieee.Fits.{down-pos, neg-fits}
 use lib.Ieee.Exact.{HasValue}
-use lib.Ieee.Back.{round-whole}
 use Rattle.float.specs.Rounded.{_⊖_}
 use Rattle.float.specs.Units.{inUnits}
+use Rattle.float.proofs.Casts.{of-int}
 use Rattle.float.proofs.Negated.{neg-lt}
 use Rattle.rounded.specs.Size.{Size}
 use Rattle.rounded.proofs.Sizes.{size-wider}
@@ -101,9 +101,6 @@ told s m e t n d w k f g a b o v h = go s t f g o h
     B : ℕ
     B = n * up d * down e
 
-    product : k * (down d * down e) ≡ k * (down e * down d)
-    product = ap (λ (z : ℕ). k * z) (mul-comm (down d) (down e))
-
     by-high : (s : Bool) → T (fits binary32 (fin false n d)) → A ≤ B → k * (down e * down d) < gap s A false B → leaves (fin s m e) (fin false n d) w ≡ true
     by-high s g l h =
         first (lt (fin s m e) (fin false n d ⊖ w)) (lt (fin true n d) (fin (not s) m e ⊖ w)) (above-left s m e n d w k g b v l h)
@@ -111,7 +108,7 @@ told s m e t n d w k f g a b o v h = go s t f g o h
     by-low : (t : Bool) → T (fits binary32 (fin true m e)) → B ≤ A → k * (down e * down d) < gap true A t B → leaves (fin true m e) (fin t n d) w ≡ true
     by-low t f l h =
         second (lt (fin true m e) (fin t n d ⊖ w)) (lt (fin (not t) n d) (fin false m e ⊖ w))
-        (above-left (not t) n d m e w k (neg-fits binary32 (fin true m e) f) a v l (omega (arith, h, product, gap-turned true t A B)))
+        (above-left (not t) n d m e w k (neg-fits binary32 (fin true m e) f) a v l (omega (arith, h, gap-turned true t A B)))
 
     go :
         (s t : Bool) → T (fits binary32 (fin s m e)) → T (fits binary32 (fin t n d)) → below t B s A ≡ false → k * (down e * down d) < gap s A t B →
@@ -137,9 +134,6 @@ tests s m e t n d w k f g a b o v = go (ltb (k * (down e * down d)) (gap s A t B
     turned : gap (not t) B (not s) A ≡ gap s A t B
     turned = gap-turned s t A B
 
-    product : k * (down d * down e) ≡ k * (down e * down d)
-    product = ap (λ (z : ℕ). k * z) (mul-comm (down d) (down e))
-
     below-turned : lt (fin (not s) m e) (fin (not t) n d) ≡ false
     below-turned = neg-lt (fin s m e) (fin t n d) ∙ o
 
@@ -153,7 +147,7 @@ tests s m e t n d w k f g a b o v = go (ltb (k * (down e * down d)) (gap s A t B
     go false q =
         let h = ltb-false (k * (down e * down d)) (gap s A t B) q in
         ap (λ (z : Bool). z || lt (neg y) (neg x ⊖ w)) (not-left s m e t n d w k f a o v h)
-        ∙ not-left (not t) n d (not s) m e w k (neg-fits binary32 (fin t n d) g) b below-turned v (omega (arith, h, turned, product))
+        ∙ not-left (not t) n d (not s) m e w k (neg-fits binary32 (fin t n d) g) b below-turned v (omega (arith, h, turned))
     go true q = told s m e t n d w k f g a b o v (ltb-true (k * (down e * down d)) (gap s A t B) q)
 
 -- ---- the whole part
@@ -192,11 +186,6 @@ rise-small (fin s m e) nan a b o = absurd b
 rise-small (fin s m e) (inf t) a b o = absurd b
 rise-small (fin s m e) (fin t n d) a b o = le-trans (rise-near s m e t n d a b o .0) (rise-most s m e t n d a b)
 
--- the whole part as a float
-whole : (k : ℕ) → k ≤ 131072 → HasValue (ofInt binary32 (pos k)) false k 1
-unfolding ofInt
-whole k h = round-whole binary32 false k (le-trans h (lit≤ tt))
-
 pub rise-is :
     (x y : Float) → T (fits binary32 x) → T (fits binary32 y) → Size 65536 x → Size 65536 y → lt y x ≡ false →
     let k = toUnsigned 64 (y ⊖ x) in
@@ -212,6 +201,6 @@ rise-is (fin s m e) (fin t n d) f g a b o =
     let p : 0 < c = mul-pos (down-pos e) (down-pos d) in
     let h = rise-near s m e t n d a b o in
     ap (λ (z : Bool). cond z (k + 1) k)
-    (tests s m e t n d (ofInt binary32 (pos k)) k f g a b o (whole k (rise-small (fin s m e) (fin t n d) a b o)))
+    (tests s m e t n d (ofInt binary32 (pos k)) k f g a b o (of-int k (le-trans (rise-small (fin s m e) (fin t n d) a b o) (lit≤ tt))))
     ∙ up-to-either c r k p (h .0) (h .1)
     ∙ up-to-same c r (2 ^ 149) (differenceOf (fin s m e) (fin t n d)) p (pow-pos 149) (difference-over s m e t n d f g)

@@ -13,6 +13,7 @@ mod mat3;
 mod obb2;
 mod obb3;
 mod panics;
+mod parts;
 mod range;
 mod root;
 mod vec2;

@@ -1,5 +1,7 @@
 //! The exact difference of two floats, in whole numbers.
 
+use super::parts::parts;
+
 /// An f32 of 65,536 at most in size is a whole number of units of 2^-149, of at most 166 binary digits: they are kept in two parts, cut at the
 /// 75th.
 const LOW_DIGITS: u32 = 75;
@@ -9,7 +11,7 @@ const ONE: i128 = 1 << (149 - LOW_DIGITS);
 
 /// The difference in size, rounded up to a whole number, of two floats of 65,536 at most.
 pub fn rounded_up(p: f32, q: f32) -> u64 {
-    let (lower, higher) = (parts(p.min(q)), parts(p.max(q)));
+    let (lower, higher) = (cut(p.min(q)), cut(p.max(q)));
     let low = higher.1 - lower.1;
     // What is left of the low part, however little, counts as one more of the high part's units.
     let units =
@@ -18,11 +20,9 @@ pub fn rounded_up(p: f32, q: f32) -> u64 {
 }
 
 /// The high and the low part, both with the float's sign.
-fn parts(x: f32) -> (i128, i128) {
-    let (field, fraction) = (x.to_bits() >> 23 & 0xff, i128::from(x.to_bits() & 0x007f_ffff));
-    // A field of 0 marks a subnormal, which has no leading 1 of its own.
-    let (significand, shift) =
-        if field == 0 { (fraction, 0) } else { (fraction | 0x0080_0000, field - 1) };
+fn cut(x: f32) -> (i128, i128) {
+    let (significand, exponent) = parts(x);
+    let (significand, shift) = (i128::from(significand), (exponent + 149) as u32);
     let (high, low) = match shift.checked_sub(LOW_DIGITS) {
         Some(shift) => (significand << shift, 0),
         None => (significand << shift >> LOW_DIGITS, (significand << shift) % LOW_END),

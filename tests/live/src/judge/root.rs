@@ -1,5 +1,7 @@
 //! The square root, and the count of its digits as document 02's fourth request words it, by integer square roots.
 
+use super::parts::parts;
+
 /// The float nearest to the root, and how many of its binary digits are worked.
 pub fn sqrt_digits(x: f32) -> (f32, u32) {
     if x.is_nan() || x <= 0.0 || x.is_infinite() {
@@ -11,12 +13,7 @@ pub fn sqrt_digits(x: f32) -> (f32, u32) {
 
 /// x = significand * 2^exponent, where the significand is odd.
 fn odd_parts(x: f32) -> (u64, i32) {
-    let (field, fraction) = (x.to_bits() >> 23, x.to_bits() & 0x007f_ffff);
-    // A field of 0 marks a subnormal, which has no leading 1 of its own.
-    let (significand, exponent) = match field {
-        0 => (fraction, -149),
-        _ => (fraction | 0x0080_0000, field as i32 - 150),
-    };
+    let (significand, exponent) = parts(x);
     let zeros = significand.trailing_zeros();
     (u64::from(significand >> zeros), exponent + zeros as i32)
 }

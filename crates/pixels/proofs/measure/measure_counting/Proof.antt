@@ -9,7 +9,7 @@ use Rattle.stroke.specs.Walk.{mostSteps}
 use Rattle.pixels.proofs.Lists.{one-le}
 use Rattle.stroke.specs.Steps.{stepsOn}
 use Rattle.stroke.specs.Image.{oneIf}
-use Rattle.pixels.proofs.Casts.{side-float}
+use Rattle.float.proofs.Casts.{in-float}
 use Rattle.stroke.proofs.Walking.{Walking, walking-none, walking-few, walking-more, walking-end}
 use Rattle.pixels.proofs.Counting.{Counting, counting-none, counting-few, counting-more}
 use Rattle.pixels.proofs.measure.measure_counting.Statement.{statement}
@@ -33,10 +33,10 @@ few : (c : tie.Then1 Inv-loop μ-loop) → c .before .before .loop .k < mostStep
 few c = walking-few (c .before .before .loop .inv .0) (steps c)
 
 int-to-float-wide : tie.Need-int-to-float-wide Inv-loop μ-loop
-int-to-float-wide c = side-float (c .before .args .width) (c .before .pre .0)
+int-to-float-wide c = in-float (c .before .args .width) (omega (arith, c .before .pre .0))
 
 int-to-float-high : tie.Need-int-to-float-high Inv-loop μ-loop
-int-to-float-high c = side-float (c .before .before .args .height) (c .before .before .pre .1)
+int-to-float-high c = in-float (c .before .before .args .height) (omega (arith, c .before .before .pre .1))
 
 first-requires : tie.Need-first-requires Inv-loop μ-loop
 first-requires c κs = tt

@@ -3,7 +3,7 @@
 use mathlib.Core.Path.{refl}
 use Prim.Native.Nat.{_-_}
 use native.Mathlib.Omega.{arith}
-use Rattle.pixels.proofs.Casts.{side-float}
+use Rattle.float.proofs.Casts.{in-float}
 use Rattle.pixels.proofs.Writing.{position-bounded, Writing, writing-none, writing-length, writing-in, writing-more, writing-end}
 use Rattle.pixels.proofs.write.enter_all.Statement.{statement}
 use Rattle.pixels.proofs.write.enter_all.Tie as tie
@@ -15,10 +15,10 @@ abbrev μ-loop : tie.MeasureT-loop
 μ-loop list₀ width height a b steps wide high p₀ n₀ k₀ list p n k = steps - k
 
 int-to-float-wide : tie.Need-int-to-float-wide Inv-loop μ-loop
-int-to-float-wide c = side-float (c .before .before .args .width) (c .before .before .pre .0 .wide)
+int-to-float-wide c = in-float (c .before .before .args .width) (omega (arith, c .before .before .pre .0 .wide))
 
 int-to-float-high : tie.Need-int-to-float-high Inv-loop μ-loop
-int-to-float-high c = side-float (c .before .before .before .args .height) (c .before .before .before .pre .0 .high)
+int-to-float-high c = in-float (c .before .before .before .args .height) (omega (arith, c .before .before .before .pre .0 .high))
 
 first-requires : tie.Need-first-requires Inv-loop μ-loop
 first-requires c κs = tt

@@ -5,8 +5,9 @@ use Prim.Native.Nat.{ℕ, _+_, _^_, _≤_}
 use native.Mathlib.Nat.{le-trans}
 use native.Mathlib.Omega.{arith}
 use lib.IntN.{pos}
-use lib.Dec.{T, le→leb, lit≤}
-use lib.Ieee.{Float, inFloat, binary32, ofInt, fits}
+use lib.Dec.{T, lit≤}
+use lib.Ieee.{Float, binary32, ofInt, fits}
+use Rattle.float.proofs.Casts.{in-float}
 use Rattle.stroke_bound.specs.Bound.{differenceOf, upTo}
 use Rattle.stroke_bound.proofs.Rise.{leaves, rise-small, rise-is}
 use Rattle.stroke_bound.proofs.difference.rise.Statement.{statement}
@@ -37,8 +38,7 @@ meets c u h =
     (rise-is x y (held x (s .good .0 .1)) (held y (s .good .1 .0 .1)) (s .pre .0 .0) (s .pre .0 .1) (s .pre .1))
 
 int-to-float-whole : tie.Need-int-to-float-whole
-unfolding inFloat
-int-to-float-whole c = le→leb (c .before .to-usize .result) (2 ^ 24) (le-trans (small (c .before)) (lit≤ tt))
+int-to-float-whole c = in-float (c .before .to-usize .result) (le-trans (small (c .before)) (lit≤ tt))
 
 add-result : tie.Need-add-result
 add-result c = omega (arith, small (c .before .before))
