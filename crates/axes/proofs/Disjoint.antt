@@ -4,12 +4,13 @@ use mathlib.Core.Path.{_≡_, refl, sym, ap, _∙_}
 use mathlib.Core.Logic.{_⊎_, inl, inr, _↔_}
 use mathlib.Core.Bool.{Bool, true, false, not, _||_, true≢false}
 use mathlib.Core.List.{List, [], _∷_, List·Memᴰ, List·Memᴰ·head, List·Memᴰ·tail, List·Memᴰ·cases-cons, List·Memᴰ·not-nil}
-use lib.Ieee.{Float, nan, inf, fin, lt, isNan}
+use lib.Ieee.{Float, lt, isNan}
 use borrow.Author.Tests.{not-false}
 use Rattle.axes.specs.Axes.{rangeOf, apartOf, some, projections, separates, meets}
 use Rattle.axes.specs.Disjoint.{+∞, -∞, NumberOf, NumberOfOr, Below, NumbersDecide, SeparatesIfDisjoint, SeparatingAxis}
 use Rattle.axes.proofs.Ends.{range-ends}
-use Rattle.float.proofs.Order.{lt-itself, lt-not}
+use Rattle.float.proofs.Order.{lt-itself, lt-not, none-lower, none-higher}
+use Rattle.float.proofs.Tests.{either}
 
 -- ---- disjoint intervals
 
@@ -34,19 +35,6 @@ ranges-below xs ys =
       λ b. b (rangeOf xs .high) (rangeOf ys .low) (g .one-of) (l .one-of),
     )
 
-none-lower : (x : Float) → lt x -∞ ≡ false
-unfolding lt
-none-lower nan = refl
-none-lower (inf true) = refl
-none-lower (inf false) = refl
-none-lower (fin s m e) = refl
-
-none-higher : (x : Float) → lt +∞ x ≡ false
-unfolding lt
-none-higher nan = refl
-none-higher (inf s) = refl
-none-higher (fin s m e) = refl
-
 pub numbers-decide : NumbersDecide
 unfolding lt isNan
 numbers-decide xs ys a b m n = (λ h x y p q. h x y (inr p) (inr q), decided)
@@ -58,10 +46,6 @@ numbers-decide xs ys a b m n = (λ h x y p q. h x y (inr p) (inr q), decided)
     decided h x y (inr p) (inr q) = h x y p q
 
 -- ---- boxes
-
-pub either : (a b : Bool) → (a || b) ≡ true → (a ≡ true) ⊎ (b ≡ true)
-either true b h = inl refl
-either false b h = inr h
 
 or-true : (a b : Bool) → (a ≡ true) ⊎ (b ≡ true) → (a || b) ≡ true
 or-true true b h = refl

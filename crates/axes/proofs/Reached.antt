@@ -9,11 +9,11 @@ use native.Mathlib.Omega.{arith}
 use lib.Ieee.{Float, isNan}
 use Rattle.types.specs.declared.answer.Verdict.{Verdict}
 use Rattle.types.specs.declared.answer.Verdict.the-variants.{Some, Refused}
-use Rattle.float.proofs.Tests.{neither}
+use Rattle.float.proofs.Tests.{neither, either}
 use Rattle.axes.specs.Axes.{some, projections, separates, undefinedOn, verdictOf, isYesOf}
 use Rattle.axes.specs.Reached.{Numbers, Defined, Separated, Passed, Reached, VerdictPromise}
 use Rattle.axes.proofs.Verdict.{verdict-join}
-use Rattle.axes.proofs.Disjoint.{either, some-is, is-some, separates-if-disjoint}
+use Rattle.axes.proofs.Disjoint.{some-is, is-some, separates-if-disjoint}
 
 -- ---- a test that cannot hold, or cannot fail
 

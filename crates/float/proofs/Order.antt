@@ -1,5 +1,5 @@
 -- The order of the floats that are numbers: none is below itself, not both of two are below the other, and what is not below a
--- number that is not below a third is not below the third. Assumes nothing.
+-- number that is not below a third is not below the third. No float is below the lower infinity, nor above the upper one. Assumes nothing.
 use mathlib.Core.Path.{_≡_, refl, sym, ap, _∙_}
 use mathlib.Core.Bool.{Bool, true, false, true≢false}
 use Prim.Native.Nat.{ℕ, _+_, _*_, _<_}
@@ -97,3 +97,18 @@ lt-not (fin s m e) (fin t n d) nan i h k = refl
 lt-not (fin s m e) (fin t n d) (inf u) i h k = k
 lt-not (fin s m e) (fin t n d) (fin u o f) i h k =
     below-fractions s (m * up e) (down e) t (n * up d) (down d) u (o * up f) (down f) (down-pos e) (down-pos d) (down-pos f) h k
+
+-- ---- the infinities
+
+pub none-lower : (x : Float) → lt x (inf true) ≡ false
+unfolding lt
+none-lower nan = refl
+none-lower (inf true) = refl
+none-lower (inf false) = refl
+none-lower (fin s m e) = refl
+
+pub none-higher : (x : Float) → lt (inf false) x ≡ false
+unfolding lt
+none-higher nan = refl
+none-higher (inf s) = refl
+none-higher (fin s m e) = refl

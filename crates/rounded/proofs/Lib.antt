@@ -7,3 +7,6 @@ pub mod Down
 pub mod Halves
 pub mod Signed
 pub mod Whole
+pub mod Order
+pub mod Numbers
+pub mod Exact

@@ -1,16 +1,16 @@
--- A fraction between two f32 of one denominator rounds to an f32 between them: so between two whole numbers. Assumes nothing.
-use mathlib.Core.Path.{_≡_, refl, sym, subst}
+-- A fraction between two f32 of one denominator rounds to an f32 between them: so between two whole numbers. Zero rounds to zero. Assumes nothing.
+use mathlib.Core.Path.{_≡_, refl, sym, _∙_, subst}
 use mathlib.Core.Bool.{Bool, true, false, _&&_, _||_, true≢false}
 use mathlib.Core.Logic.{_⊎_, inl, inr}
 use Prim.Native.Nat.{ℕ, _*_, _^_, _≤_, _<_}
-use native.Mathlib.Nat.{le-trans, le-of-eq, le-of-lt, mul-one, le-of-mul-le-mul-right}
-use lib.IntN.{ℤ}
+use native.Mathlib.Nat.{le-trans, le-of-eq, le-of-lt, mul-one, zero-mul, le-of-mul-le-mul-right}
+use lib.IntN.{ℤ, pos}
 use lib.Dec.{T, ltb, eqb, ltb→lt, eqb→eq, lit≤}
 use lib.Ieee.{Float, nan, inf, fin, binary32, up, down, round, neg, le, lt, eq}
 use lib.Ieee.Fits.{down-pos, and-l}
 use lib.Ieee.Exact.{HasValue}
 use lib.Ieee.Order.{round-mono, transfer}
-use lib.Ieee.Scale.{finite, round-under, round-val}
+use lib.Ieee.Scale.{finite, round-same, round-under, round-val}
 use lib.Ieee.Back.{round-whole}
 use Rattle.float.proofs.Negated.{neg-round}
 
@@ -113,3 +113,15 @@ round-mag s a c p q C lo hi top =
     let low-fits : p ≤ 2 ^ 24 = le-trans (le-of-mul-le-mul-right (le-trans lo hi) C) top in
     whole s p q (round binary32 s a c)
     (round-over 1 a c p q (lit≤ tt) C (round-whole binary32 false p low-fits) (round-whole binary32 false q top) (rw mul-one lo) (rw mul-one hi) s)
+
+-- ---- zero, of either sign
+
+abbrev pub signedZero : Bool → Float
+signedZero s = fin s 0 (pos 0)
+
+pub round-zero : (s : Bool) (c : ℕ) → 0 < c → round binary32 s 0 c ≡ signedZero s
+round-zero s c C = round-same binary32 s 0 c 0 1 C (lit≤ tt) (sym (zero-mul c)) ∙ whole-zero s
+  where
+    whole-zero : (s : Bool) → round binary32 s 0 1 ≡ signedZero s
+    whole-zero true = unfold round in refl
+    whole-zero false = unfold round in refl

@@ -1,12 +1,12 @@
 -- The order of fractions of either sign: floats that have them for values are in it, and rounding keeps it. Assumes nothing.
 use mathlib.Core.Path.{_≡_, refl, sym, ap, _∙_, subst}
-use mathlib.Core.Bool.{Bool, true, false, _&&_, _||_, Bool·beq}
+use mathlib.Core.Bool.{Bool, true, false, _&&_, _||_}
 use Prim.Native.Nat.{ℕ, zero, suc, _+_, _*_, _<_, _≤_}
 use native.Mathlib.Nat.{mul-pos, mul-comm, mul-assoc, mul-left-comm, suc-mul, zero-lt-suc}
 use native.Mathlib.Omega.{arith}
 use borrow.Author.Tests.{ltb-false, le-ltb}
 use lib.Dec.{T, eqb, eqb→eq}
-use lib.Ieee.{Float, nan, inf, fin, binary32, up, down, below, round, neg, lt, le, eq, isNan}
+use lib.Ieee.{Float, nan, inf, fin, binary32, up, down, below, level, round, neg, lt, le, eq, isNan}
 use lib.Ieee.Fits.{down-pos, and-l, and-r}
 use lib.Ieee.Exact.{HasValue}
 use lib.Ieee.Order.{round-mono}
@@ -39,33 +39,36 @@ value-lt (fin r m e) (fin u n f) s a c t b d C D p q =
 
 -- ---- rounded
 
-level-not : (s : Bool) (a : ℕ) (t : Bool) (b : ℕ) → T (eqb a b && (Bool·beq s t || eqb a 0)) → below t b s a ≡ false
-level-not false a false b h = le-ltb b a (omega (arith, eqb→eq a b (and-l (eqb a b) true h)))
-level-not true a true b h = le-ltb a b (omega (arith, eqb→eq a b (and-l (eqb a b) true h)))
-level-not true a false b h = refl
-level-not false a true b h =
-    le-ltb 0 (b + a) (omega (arith, eqb→eq a b (and-l (eqb a b) (eqb a 0) h), eqb→eq a 0 (and-r (eqb a b) (eqb a 0) h)))
+no-size : (a b : ℕ) → T (eqb a b && eqb a 0) → a + b ≤ 0
+no-size a b h = omega (arith, eqb→eq a b (and-l (eqb a b) (eqb a 0) h), eqb→eq a 0 (and-r (eqb a b) (eqb a 0) h))
 
-eq-not : (x y : Float) → T (eq x y) → lt y x ≡ false
+level-not : (s : Bool) (a : ℕ) (t : Bool) (b : ℕ) → T (level s a t b) → (below s a t b ≡ false) × (below t b s a ≡ false)
+level-not false a false b h = let e = eqb→eq a b (and-l (eqb a b) true h) in (le-ltb a b (omega arith), le-ltb b a (omega arith))
+level-not true a true b h = let e = eqb→eq a b (and-l (eqb a b) true h) in (le-ltb b a (omega arith), le-ltb a b (omega arith))
+level-not true a false b h = (le-ltb 0 (a + b) (no-size a b h), refl)
+level-not false a true b h = (refl, le-ltb 0 (b + a) (omega (arith, no-size a b h)))
+
+-- neither of two equal numbers is below the other
+pub eq-not : (x y : Float) → T (eq x y) → (lt x y ≡ false) × (lt y x ≡ false)
 unfolding lt eq
 eq-not nan y h = absurd h
 eq-not (inf s) nan h = absurd h
-eq-not (inf true) (inf true) h = refl
+eq-not (inf true) (inf true) h = (refl, refl)
 eq-not (inf true) (inf false) h = absurd h
 eq-not (inf false) (inf true) h = absurd h
-eq-not (inf false) (inf false) h = refl
+eq-not (inf false) (inf false) h = (refl, refl)
 eq-not (inf s) (fin t n d) h = absurd h
 eq-not (fin s m e) nan h = absurd h
 eq-not (fin s m e) (inf t) h = absurd h
 eq-not (fin s m e) (fin t n d) h = level-not s (m * up e * down d) t (n * up d * down e) h
 
-le-not : (x y : Float) → T (le x y) → lt y x ≡ false
+pub le-not : (x y : Float) → T (le x y) → lt y x ≡ false
 unfolding le
 le-not x y h = go (lt x y) refl h
   where
     go : (b : Bool) → lt x y ≡ b → T (b || eq x y) → lt y x ≡ false
     go true k h = lt-one-way x y k
-    go false k h = eq-not x y h
+    go false k h = eq-not x y h .1
 
 -- of one sign
 plain-order : (a c b d : ℕ) → 0 < c → 0 < d → b * c ≤ a * d → lt (round binary32 false a c) (round binary32 false b d) ≡ false
@@ -115,11 +118,11 @@ round-order true a c false b d C D h =
 
 -- ---- an f32 and a rounded fraction
 
-itself : (s : Bool) (a : ℕ) → below s a s a ≡ false
+pub itself : (s : Bool) (a : ℕ) → below s a s a ≡ false
 itself true a = le-ltb a a (omega arith)
 itself false a = le-ltb a a (omega arith)
 
-has-number : (x : Float) (s : Bool) (a c : ℕ) → HasValue x s a c → isNan x ≡ false
+pub has-number : (x : Float) (s : Bool) (a c : ℕ) → HasValue x s a c → isNan x ≡ false
 unfolding isNan
 has-number nan s a c h = absurd h
 has-number (inf t) s a c h = absurd h

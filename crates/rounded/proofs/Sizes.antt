@@ -1,13 +1,13 @@
--- Bounds on the size of a float, and how rounded sums keep them. Assumes nothing.
+-- Bounds on the size of a float, and how rounded sums and products keep them. Assumes nothing.
 use mathlib.Core.Path.{_≡_, refl, ap, _∙_}
 use mathlib.Core.Bool.{Bool, true, false, _&&_, cond, Bool·beq}
 use Prim.Native.Nat.{ℕ, _+_, _-_, _*_, _^_, _≤_, _<_}
-use native.Mathlib.Nat.{le-trans, le-of-eq, zero-mul, mul-pos, mul-comm, mul-assoc, mul-le-mul-right, add-mul}
+use native.Mathlib.Nat.{le-trans, le-of-eq, zero-mul, mul-pos, mul-comm, mul-assoc, mul-mul-mul-comm, mul-le-mul, mul-le-mul-right, add-mul}
 use native.Mathlib.Omega.{arith}
 use lib.Dec.{ltb}
-use lib.Ieee.{Float, nan, inf, fin, binary32, up, down, round, neg, sum, add, sub}
+use lib.Ieee.{Float, nan, inf, fin, binary32, unlike, up, down, round, neg, sum, add, sub, mul}
 use lib.Ieee.Fits.{down-pos}
-use Rattle.float.specs.Rounded.{_⊕_, _⊖_}
+use Rattle.float.specs.Rounded.{_⊕_, _⊖_, _⊗_}
 use Rattle.float.specs.Values.{absOf}
 use Rattle.rounded.proofs.Round.{Mag, round-mag}
 use Rattle.rounded.specs.Size.{Size}
@@ -71,3 +71,13 @@ add-size a b (fin s m e) (fin u n d) h k t =
 pub sub-size : (a b : ℕ) (x y : Float) → Size a x → Size b y → a + b ≤ 2 ^ 24 → Size (a + b) (x ⊖ y)
 unfolding sub
 sub-size a b x y h k t = add-size a b x (neg y) h (neg-size b y k) t
+
+pub mul-size : (a b : ℕ) (x y : Float) → Size a x → Size b y → a * b ≤ 2 ^ 24 → Size (a * b) (x ⊗ y)
+unfolding mul
+mul-size a b nan y h k t = absurd h
+mul-size a b (inf s) y h k t = absurd h
+mul-size a b (fin s m e) nan h k t = absurd k
+mul-size a b (fin s m e) (inf u) h k t = absurd k
+mul-size a b (fin s m e) (fin u n d) h k t =
+    round-size (unlike s u) (m * up e * (n * up d)) (down e * down d) (a * b) (mul-pos (down-pos e) (down-pos d))
+    (le-trans (mul-le-mul h k) (le-of-eq (mul-mul-mul-comm a (down e) b (down d)))) t

@@ -28,7 +28,7 @@ quot-size s m e n d p h =
     rw z (round-size (unlike s false) (m * up e * down d) (n * up d * down e) 1 (mul-pos (mul-pos p (up-pos d)) (down-pos e)) (omega arith) (lit≤ tt))
 
 -- a number over its own size
-quot-unit : (s : Bool) (m : ℕ) (e : ℤ) → 0 < m → fin s m e ⊘ fin false m e ≡ unit s
+pub quot-unit : (s : Bool) (m : ℕ) (e : ℤ) → 0 < m → fin s m e ⊘ fin false m e ≡ unit s
 unfolding div
 quot-unit s m e h =
     let A = m * up e * down e in

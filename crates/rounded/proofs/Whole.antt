@@ -13,7 +13,7 @@ use Rattle.float.specs.Rounded.{_⊖_}
 use Rattle.float.proofs.Order.{ltb-scaled}
 use Rattle.rounded.proofs.Apart.{sub-mul}
 
-sum-scaled : (s : Bool) (a : ℕ) (t : Bool) (b c k : ℕ) → 0 < c → 0 < k → sum binary32 s (a * k) t (b * k) (c * k) ≡ sum binary32 s a t b c
+pub sum-scaled : (s : Bool) (a : ℕ) (t : Bool) (b c k : ℕ) → 0 < c → 0 < k → sum binary32 s (a * k) t (b * k) (c * k) ≡ sum binary32 s a t b c
 unfolding sum
 sum-scaled s a t b c k C K = go (Bool·beq s t) (ltb a b) (ltb b a) (ltb-scaled a b k K) (ltb-scaled b a k K)
   where
