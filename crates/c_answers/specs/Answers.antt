@@ -29,6 +29,8 @@ use Rattle.types.specs.declared.answer.Pixels.{Pixels}
 use Rattle.types.specs.declared.answer.Pixels.the-variants as pixels
 use Rattle.types.specs.declared.answer.Listed.{Listed}
 use Rattle.types.specs.declared.answer.Listed.the-variants as listed
+use Rattle.types.specs.declared.answer.Ink.{Ink}
+use Rattle.types.specs.declared.answer.Ink.the-variants as ink
 use Rattle.types.specs.declared.answer.Widened.{Widened}
 use Rattle.types.specs.declared.answer.Widened.the-variants as widened
 use Rattle.c_answers.specs.declared.FloatAnswer.{FloatAnswer}
@@ -40,6 +42,7 @@ use Rattle.c_answers.specs.declared.BoolAnswer.{BoolAnswer}
 use Rattle.c_answers.specs.declared.IntervalAnswer.{IntervalAnswer}
 use Rattle.c_answers.specs.declared.PixelsAnswer.{PixelsAnswer}
 use Rattle.c_answers.specs.declared.CountAnswer.{CountAnswer}
+use Rattle.c_answers.specs.declared.InkAnswer.{InkAnswer}
 use Rattle.float.specs.Rounded.{+0}
 
 abbrev pub none : ℕ
@@ -108,6 +111,11 @@ unfoldable pub ofListed : Listed → CountAnswer
 ofListed (listed.Count n) = record { status = 0; count = n; place = 0 }
 ofListed (listed.Refused n) = record { status = n; count = 0; place = 0 }
 ofListed (listed.RefusedAt n place) = record { status = n; count = 0; place = place }
+
+unfoldable pub ofInk : Ink → InkAnswer
+ofInk (ink.Some x) = record { status = 0; value = x; place = 0 }
+ofInk (ink.Refused n) = record { status = n; value = +0; place = 0 }
+ofInk (ink.RefusedAt n place) = record { status = n; value = +0; place = place }
 
 -- the box is with the lender: the status alone
 abbrev pub ofWidened : Widened → ℕ

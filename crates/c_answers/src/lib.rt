@@ -7,6 +7,7 @@ use types::Boxed3;
 use types::Corner;
 use types::Extent;
 use types::Image;
+use types::Ink;
 use types::Interval;
 use types::Length;
 use types::Listed;
@@ -17,7 +18,7 @@ use types::Vec3;
 use types::Verdict;
 use types::Widened;
 ghost use mathlib.Core.Path.{_≡_};
-ghost use Rattle.c_answers.specs.Answers.{ofExtent, ofLength, ofImage, ofNearest, ofCorner, ofBoxed, ofBoxed3, ofVerdict, ofInterval, ofPixels, ofListed, ofWidened};
+ghost use Rattle.c_answers.specs.Answers.{ofExtent, ofLength, ofImage, ofNearest, ofCorner, ofBoxed, ofBoxed3, ofVerdict, ofInterval, ofPixels, ofListed, ofInk, ofWidened};
 
 // A number.
 #[repr(C)]
@@ -90,6 +91,15 @@ pub struct PixelsAnswer {
 pub struct CountAnswer {
     pub status: u32,
     pub count: usize,
+    // The place of a refusal that tells one, and else 0.
+    pub place: usize,
+}
+
+// The ink of a stroke: a length.
+#[repr(C)]
+pub struct InkAnswer {
+    pub status: u32,
+    pub value: f32,
     // The place of a refusal that tells one, and else 0.
     pub place: usize,
 }
@@ -260,6 +270,28 @@ pub fn listed(a: Listed) -> CountAnswer
             status: number,
             count: 0,
             place,
+        },
+    }
+}
+
+pub fn ink(a: Ink) -> InkAnswer
+    ensures { λ r. ⌜ r ≡ ofInk a ⌝ }
+{
+    match a {
+        Ink::Some(value) => InkAnswer {
+            status: 0,
+            value,
+            place: 0,
+        },
+        Ink::Refused(status) => InkAnswer {
+            status,
+            value: 0.0,
+            place: 0,
+        },
+        Ink::RefusedAt { number, place: at } => InkAnswer {
+            status: number,
+            value: 0.0,
+            place: at,
         },
     }
 }

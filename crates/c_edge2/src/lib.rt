@@ -1,18 +1,21 @@
 // Edges, and pen strokes along them.
 use c_answers::CountAnswer;
 use c_answers::FloatAnswer;
+use c_answers::InkAnswer;
 use edge2::OnEdge;
 use types::Aabb2;
 use types::Vec2;
 ghost use mathlib.Core.Path.{_≡_};
 ghost use mathlib.Core.Bool.{true};
 ghost use lib.ListN.{length as entries};
-ghost use Rattle.c_answers.specs.Answers.{ofLength, ofListed};
+ghost use Rattle.c_answers.specs.Answers.{ofLength, ofListed, ofInk};
 ghost use Rattle.pixels.specs.Answer.{overlappingPixelsDdaOf};
 ghost use Rattle.pixels.specs.Promise.{Promise};
 ghost use Rattle.edge2.specs.Measure.{lengthOf, squaredLengthOf, unitEdgeVectorOf, positionFromRatioOf, ratioFromPositionOf, cullingIntersectionOf};
 ghost use Rattle.edge2.specs.Nearest.{nearestOriginOf, nearestToPointOf};
-ghost use Rattle.edge2.specs.Ink.{intersectionLengthAgainstAabb2Of, inkOf};
+ghost use Rattle.edge2.specs.Inside.{intersectionLengthAgainstAabb2Of};
+ghost use Rattle.stroke_ink.specs.Ink.{inkOf};
+ghost use Rattle.stroke_ink.specs.Promise.{Promise as InkPromise};
 
 // The length of the edge from `s` to `e`.
 // Example: (0, 0), (3, 4) gives 5.
@@ -109,16 +112,22 @@ pub extern "C" fn bgz_edge2_intersection_length_against_aabb2(
     c_answers::length(edge2::intersection_length_against_aabb2(s, e, b))
 }
 
-// The ink that the stroke from `s` to `e` leaves in the box `b`: `edge2::intersection_length_against_aabb2`, with its refusal, so not the
-// exact length.
-// Refused: `ORDER` if in x the box is not low <= high, as with a NaN, or both ends are NaN; then, unless x shares nothing, the same
-// in y.
-// Example: (0, 0), (6, 8), (0, 0, 3, 4) gives 5.
+// The ink that the stroke from `p0` to `p1` leaves in the box `b`: the length of what it draws there. The stroke's line is clipped against the
+// box, as by `aabb::intersections_against_line` with the origin `p0` and the direction `p1` - `p0`, and the interval is bounded to 0..1. The ink is the
+// `edge2::length` between the positions that `edge2::position_from_ratio` gives for the interval's two ends, or 0 if the line misses the box or the
+// bounding leaves nothing. It is finite and not below 0. With both ends in the box, edges included, it is the `edge2::length` of the stroke, and
+// nothing further is rounded; with both ends beyond one edge of the box it is 0, and so with equal ends, which are not refused. Otherwise the two
+// positions are rounded, by a few units in the last place of the stroke's largest coordinate, so that the ink may be above the stroke's length.
+// Refused: `NOT_FINITE` if of the coordinates `p0.x`, `p0.y`, `p1.x`, `p1.y` the first that offends is not finite, `COORDINATE` if it is above
+// 65,536 in size; then `ORDER` if in x the box is not low <= high, as with a NaN, then the same in y.
+// Place: that of `edge2::overlapping_pixels_dda`.
+// Example: (0, 0), (4, 3), (0, 0, 2, 3) gives 2.5.
 #[no_mangle]
-pub extern "C" fn bgz_edge2_ink(s: Vec2, e: Vec2, b: Aabb2) -> FloatAnswer
-    ensures { λ r. ⌜ r ≡ ofLength (inkOf s e b) ⌝ }
+pub extern "C" fn bgz_edge2_ink(p0: Vec2, p1: Vec2, b: Aabb2) -> InkAnswer
+    ensures answers { λ r. ⌜ r ≡ ofInk (inkOf p0 p1 b) ⌝ }
+    ensures promises { λ r. ⌜ InkPromise p0 p1 b (inkOf p0 p1 b) ⌝ }
 {
-    c_answers::length(edge2::ink(s, e, b))
+    c_answers::ink(stroke_ink::ink(p0, p1, b))
 }
 
 // The pixels under the stroke from `p0` to `p1`, in an image of `width` by `height` pixels; a side may be 0. A walk starts at `p0`.

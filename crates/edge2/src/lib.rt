@@ -1,5 +1,4 @@
 // Edges, segments from one point to another: each routine under its name, whichever crate has it.
-pub use edge2_inside::ink;
 pub use edge2_inside::intersection_length_against_aabb2;
 pub use edge2_measure::culling_intersection;
 pub use edge2_measure::length;

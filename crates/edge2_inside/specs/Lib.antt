@@ -1,1 +1,1 @@
-pub mod Ink
+pub mod Inside

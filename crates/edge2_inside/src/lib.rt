@@ -5,7 +5,7 @@ use types::Length;
 use types::Range;
 use types::Vec2;
 ghost use mathlib.Core.Path.{_≡_};
-ghost use Rattle.edge2_inside.specs.Ink.{sharedOf, diagonalOf, intersectionLengthAgainstAabb2Of, inkOf};
+ghost use Rattle.edge2_inside.specs.Inside.{sharedOf, diagonalOf, intersectionLengthAgainstAabb2Of};
 
 // What the box's range and the range between the edge's two ends share in one dimension.
 fn shared(low: f32, high: f32, s: f32, e: f32) -> Extent
@@ -43,11 +43,4 @@ pub fn intersection_length_against_aabb2(s: Vec2, e: Vec2, b: Aabb2) -> Length
         shared(b.min_x, b.max_x, s.x, e.x),
         shared(b.min_y, b.max_y, s.y, e.y),
     )
-}
-
-// The ink that one pen stroke leaves in one box.
-pub fn ink(s: Vec2, e: Vec2, b: Aabb2) -> Length
-    ensures { λ r. ⌜ r ≡ inkOf s e b ⌝ }
-{
-    intersection_length_against_aabb2(s, e, b)
 }

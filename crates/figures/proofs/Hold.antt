@@ -19,6 +19,7 @@ use Rattle.stroke.specs.Check.{sidesTooLarge, withinLimit, numberOf, offenderFr
 use Rattle.stroke.specs.Answer.{ifAccepted}
 use Rattle.stroke_bound.specs.Bound.{largerDifferenceOf, pixelsBoundOf}
 use Rattle.pixels.specs.Answer.{walkOf}
+use Rattle.stroke_ink.specs.Ink.{boundedOf, lengthOver, drawnOf, inkOf}
 use Rattle.figures.specs.Claim.{FiguresHold}
 
 pub hold : FiguresHold
@@ -28,6 +29,7 @@ unfolding round ofInt ofBits neg add sub mul div lt le ne eq isNan toUnsigned ab
     tilesOf overlappingTilesOf
     stepOf axisOf at within inRanges firstOutside exit upto positions onSide inSides number kept pixels entries strokeOf
     sidesTooLarge withinLimit numberOf offenderFrom sameEnds unlessOffender acceptOf ifAccepted fitted walkOf largerDifferenceOf pixelsBoundOf
+    boundedOf lengthOver drawnOf inkOf
 hold = (
   (refl, (refl, (refl, (refl, (refl, (refl, (refl, (refl, (refl, ((refl, refl), ((refl, refl), ((refl, refl), ((refl, refl, refl), tt))))))))))))),
   (refl, (refl, (refl, (refl, (refl, (refl, ((refl, refl, refl), tt))))))),
@@ -35,4 +37,5 @@ hold = (
   ((refl, refl), ((refl, refl), ((refl, refl), (refl, (refl, (refl, tt)))))),
   (λ _ _. refl, (λ _ _. refl, (λ _ _. refl, (λ _ _. refl, (λ _ _. refl, (λ _ _. refl, (λ _ _. refl, (λ _ _. refl, (λ _ _. refl, (λ _ _. refl, (λ _ _. refl, (λ _ _. refl, (λ _ _. refl, tt))))))))))))),
   ((refl, refl, refl), ((refl, refl, refl), ((refl, refl, refl), ((refl, refl, refl), ((refl, refl, refl), ((refl, refl, refl), ((refl, refl, refl), (refl, (refl, (refl, (refl, tt))))))))))),
+  (refl, (refl, (refl, (refl, (refl, (refl, (refl, (refl, (refl, (refl, (refl, (refl, (refl, (refl, tt)))))))))))))),
 )

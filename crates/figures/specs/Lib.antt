@@ -5,4 +5,5 @@ pub mod Further
 pub mod Faces
 pub mod Offenders
 pub mod Inside
+pub mod Ink
 pub mod Claim

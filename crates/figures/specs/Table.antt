@@ -14,6 +14,7 @@ use Rattle.types.specs.declared.answer.Extent.{Extent}
 use Rattle.types.specs.declared.answer.Pixels.{Pixels}
 use Rattle.types.specs.declared.answer.Listed.{Listed}
 use Rattle.types.specs.declared.answer.Listed.the-variants.{Count, Refused}
+use Rattle.types.specs.declared.answer.Ink.{Ink}
 use Rattle.range.specs.Values.{intersectionLengthOf}
 use Rattle.aabb.specs.Clip.{intersectionsAgainstLineOf, intersectionsAgainstRayOf}
 use Rattle.aabb_lines.specs.Results.{resultsOf}
@@ -25,8 +26,9 @@ use Rattle.tiles.specs.Answer.{overlappingTilesOf}
 use Rattle.pixels.specs.Entries.{strokeOf}
 use Rattle.pixels.specs.Answer.{walkOf}
 use Rattle.stroke_bound.specs.Bound.{pixelsBoundOf}
+use Rattle.stroke_ink.specs.Ink.{inkOf}
 
--- ---- numbers, each an f32: `plus 4`, `minus 1`, and `halves 7` for 3.5
+-- ---- numbers, each an f32: `plus 4`, `minus 1`, `halves 7` for 3.5 and `quarters 1` for 0.25
 
 abbrev pub plus : ℕ → Float
 plus n = round binary32 false n 1
@@ -36,6 +38,9 @@ minus n = round binary32 true n 1
 
 abbrev pub halves : ℕ → Float
 halves n = round binary32 false n 2
+
+abbrev pub quarters : ℕ → Float
+quarters n = round binary32 false n 4
 
 -- ---- shapes
 
@@ -95,6 +100,10 @@ bound p q width height number = pixelsBoundOf width height p q ≡ Count number
 -- a stroke is refused so by both walks, whatever the length of the list
 abbrev pub strokeRefused : Vec2 → Vec2 → ℕ → ℕ → Listed → Type 0
 strokeRefused p q width height answer = (closing : Bool) (room : ℕ) → walkOf closing width height p q room ≡ answer
+
+-- the ink that a stroke leaves in a box
+abbrev pub ink : Vec2 → Vec2 → Aabb2 → Ink → Type 0
+ink p q b answer = inkOf p q b ≡ answer
 
 -- ---- the claim about a list of rows: each of them holds
 

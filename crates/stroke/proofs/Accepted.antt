@@ -36,6 +36,14 @@ pub record Coordinate (x : Float) : Type 0 where
   pub fit : T (fits binary32 x)
   pub size : Size 65536 x
 
+-- both ends have such coordinates
+pub record Bounded (p q : Vec2) : Type 0 where
+  pub x0 : Coordinate (p .x)
+  pub y0 : Coordinate (p .y)
+  pub x1 : Coordinate (q .x)
+  pub y1 : Coordinate (q .y)
+
+-- and differ
 pub record Accepted (p q : Vec2) : Type 0 where
   pub x0 : Coordinate (p .x)
   pub y0 : Coordinate (p .y)
@@ -73,9 +81,8 @@ within-more at x xs = go (withinLimit x)
     go true e = (refl, e)
     go false e = absurd (let z : _≡_ {A = ℕ} 0 1 = cc in let y : ⊥ = omega arith in y)
 
-pub accepted : {p q : Vec2} → AreFloats p q → firstOffender (coordinates p q) ≡ None → sameEnds p q ≡ false → Accepted p q
-unfolding sameEnds
-accepted {p} {q} f t d =
+pub bounded : {p q : Vec2} → AreFloats p q → firstOffender (coordinates p q) ≡ None → Bounded p q
+bounded {p} {q} f t =
     let x0 = within-more 0 (p .x) (p .y ∷ q .x ∷ q .y ∷ []) t in
     let y0 = within-more 1 (p .y) (q .x ∷ q .y ∷ []) (x0 .1) in
     let x1 = within-more 2 (q .x) (q .y ∷ []) (y0 .1) in
@@ -85,8 +92,17 @@ accepted {p} {q} f t d =
       y0 = coordinate (p .y) (f .y0) (y0 .0);
       x1 = coordinate (q .x) (f .x1) (x1 .0);
       y1 = coordinate (q .y) (f .y1) (y1 .0);
-      differ = either (eq (p .x) (q .x)) (eq (p .y) (q .y)) d;
     }
+
+accepted : {p q : Vec2} → Bounded p q → sameEnds p q ≡ false → Accepted p q
+unfolding sameEnds
+accepted {p} {q} w d = record {
+  x0 = w .x0;
+  y0 = w .y0;
+  x1 = w .x1;
+  y1 = w .y1;
+  differ = either (eq (p .x) (q .x)) (eq (p .y) (q .y)) d;
+}
 
 -- a stroke that is walked, over an image w by h
 pub record Passed (w h : ℕ) (p q : Vec2) : Type 0 where
@@ -106,13 +122,13 @@ passed {w} {h} {p} {q} f = go (sidesTooLarge w h) (firstOffender (coordinates p 
   where
     go :
         (t : Bool) (o : Offender) (u : Bool) → sidesTooLarge w h ≡ t → firstOffender (coordinates p q) ≡ o → sameEnds p q ≡ u →
-        cond t (Refused 4) (unlessOffender o (cond u (Refused 2) Yes)) ≡ Yes → Passed w h p q
+        cond t (Refused 4) (unlessOffender RefusedAt o (cond u (Refused 2) Yes)) ≡ Yes → Passed w h p q
     go true o u i j k e = not-refused 4 e
     go false (Found n place) u i j k e = not-refused-at n place e
     go false None true i j k e = not-refused 2 e
     go false None false i j k e =
         let s = neither (ltb 16384 w) (ltb 16384 h) i in
-        record { wide = ltb-false 16384 w (s .0); high = ltb-false 16384 h (s .1); stroke = accepted f j k }
+        record { wide = ltb-false 16384 w (s .0); high = ltb-false 16384 h (s .1); stroke = accepted (bounded f j) k }
 
 -- none of the tests refuses a short list
 pub not-short : (w h : ℕ) (p q : Vec2) (k : ℕ) → acceptOf w h p q ≡ Refused k → k ≡ 1 → ⊥
@@ -122,7 +138,7 @@ not-short w h p q k = go (sidesTooLarge w h) (firstOffender (coordinates p q)) (
     other : (n : ℕ) → (n ≡ 1 → ⊥) → Refused n ≡ Refused k → k ≡ 1 → ⊥
     other n o e z = o (let y : n ≡ k = cc in y ∙ z)
 
-    go : (t : Bool) (o : Offender) (u : Bool) → cond t (Refused 4) (unlessOffender o (cond u (Refused 2) Yes)) ≡ Refused k → k ≡ 1 → ⊥
+    go : (t : Bool) (o : Offender) (u : Bool) → cond t (Refused 4) (unlessOffender RefusedAt o (cond u (Refused 2) Yes)) ≡ Refused k → k ≡ 1 → ⊥
     go true o u e z = other 4 (λ y. omega arith) e z
     go false (Found n place) u e z = let y : _≡_ {A = ℕ} 0 1 = cc in omega arith
     go false None true e z = other 2 (λ y. omega arith) e z
@@ -130,7 +146,7 @@ not-short w h p q k = go (sidesTooLarge w h) (firstOffender (coordinates p q)) (
 
 -- ---- its two axes
 
-difference-size : {x y : Float} → Coordinate x → Coordinate y → Size 131072 (y ⊖ x)
+pub difference-size : {x y : Float} → Coordinate x → Coordinate y → Size 131072 (y ⊖ x)
 difference-size {x} {y} a b = sub-size 65536 65536 y x (b .size) (a .size) (lit≤ tt)
 
 difference-nonzero : {x y : Float} → Coordinate x → Coordinate y → eq x y ≡ false → NonZero (y ⊖ x)

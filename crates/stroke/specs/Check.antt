@@ -1,4 +1,4 @@
--- What is tested before a stroke is walked. Definitions only.
+-- What is tested of a stroke before it is walked, and of its coordinates before its ink is measured. Definitions only.
 use mathlib.Core.Bool.{Bool, cond, _&&_, _||_}
 use mathlib.Core.List.{List, [], _∷_}
 use Prim.Native.Nat.{ℕ, suc}
@@ -47,11 +47,11 @@ sameEnds p q = eq (p .x) (q .x) && eq (p .y) (q .y)
 
 -- ---- the tests in their order
 
--- a coordinate that offends is refused with its place, and else r is the outcome
-unfoldable pub unlessOffender : Offender → Acceptance → Acceptance
-unlessOffender (Found number place) r = RefusedAt number place
-unlessOffender None r = r
+-- a coordinate that offends is refused, by `refuse` with its number and its place, and else r is the outcome
+unfoldable pub unlessOffender : {A : Type 0} → (ℕ → ℕ → A) → Offender → A → A
+unlessOffender refuse (Found number place) r = refuse number place
+unlessOffender refuse None r = r
 
 -- the sides of an image w by h, then the coordinates of the ends p and q, then whether the ends are equal
 unfoldable pub acceptOf : ℕ → ℕ → Vec2 → Vec2 → Acceptance
-acceptOf w h p q = cond (sidesTooLarge w h) (Refused 4) (unlessOffender (firstOffender (coordinates p q)) (cond (sameEnds p q) (Refused 2) Accepted))
+acceptOf w h p q = cond (sidesTooLarge w h) (Refused 4) (unlessOffender RefusedAt (firstOffender (coordinates p q)) (cond (sameEnds p q) (Refused 2) Accepted))

@@ -1,4 +1,4 @@
-// What is tested before a stroke is walked.
+// What is tested of a stroke before it is walked, and of its coordinates before its ink is measured.
 use types::Vec2;
 ghost use mathlib.Core.Path.{_≡_};
 ghost use Rattle.stroke.specs.Check.{sidesTooLarge, withinLimit, numberOf, firstOffender, sameEnds, acceptOf};

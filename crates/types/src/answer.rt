@@ -55,6 +55,13 @@ pub enum Verdict {
     Refused(u32),
 }
 
+// The ink that a stroke leaves in a box: a length.
+pub enum Ink {
+    Some(f32),
+    Refused(u32),
+    RefusedAt { number: u32, place: usize },
+}
+
 // What became of a box lent to be widened.
 pub enum Widened {
     Done,

@@ -1,6 +1,6 @@
 -- `edge2_inside::diagonal` meets its contract: each answer is what the definition picks by the matches that led there. Assumes nothing.
 use borrow.Author.Needs.{needs}
-use Rattle.edge2_inside.specs.Ink.{diagonalOf}
+use Rattle.edge2_inside.specs.Inside.{diagonalOf}
 use Rattle.edge2_inside.proofs.diagonal.Statement.{statement}
 use Rattle.edge2_inside.proofs.diagonal.Tie as tie
 

@@ -1,6 +1,6 @@
 -- `edge2_inside::intersection_length_against_aabb2` meets its contract, by what its calls ensure. Assumes nothing.
 use borrow.Author.Needs.{needs}
-use Rattle.edge2_inside.specs.Ink.{intersectionLengthAgainstAabb2Of}
+use Rattle.edge2_inside.specs.Inside.{intersectionLengthAgainstAabb2Of}
 use Rattle.edge2_inside.proofs.intersection_length_against_aabb2.Statement.{statement}
 use Rattle.edge2_inside.proofs.intersection_length_against_aabb2.Tie as tie
 

@@ -25,7 +25,3 @@ diagonalOf (extent.Some dx) (extent.Some dy) = Some (sqrtOf (dx ⊗ dx ⊕ dy �
 
 unfoldable pub intersectionLengthAgainstAabb2Of : Vec2 → Vec2 → Aabb2 → Length
 intersectionLengthAgainstAabb2Of s e b = diagonalOf (sharedOf (b .«min_x») (b .«max_x») (s .x) (e .x)) (sharedOf (b .«min_y») (b .«max_y») (s .y) (e .y))
-
--- document 01 takes the ink of a stroke to be that length
-unfoldable pub inkOf : Vec2 → Vec2 → Aabb2 → Length
-inkOf s e b = intersectionLengthAgainstAabb2Of s e b

@@ -1,0 +1,2 @@
+pub mod Ink
+pub mod Promise
