@@ -1,5 +1,5 @@
 /*
- * Bagnoszyk 0.2.0: geometry for patent drawings in f32, proved. The C interface, in C99 and C++11 and all later versions.
+ * Bagnoszyk 0.3.0: geometry for patent drawings in f32, proved. The C interface, in C99 and C++11 and all later versions.
  * Made from the Rattle sources by tests/generate. Licence: MIT, see NOTICE (installed under share/doc/bagnoszyk).
  *
  * Calls. Every routine takes any bits in every number, NaN and infinities among them, ends, and gives an answer, none, or
@@ -44,7 +44,7 @@
 extern "C" {
 #endif
 
-#define BAGNOSZYK_VERSION "0.2.0"
+#define BAGNOSZYK_VERSION "0.3.0"
 
 /* ---- limits, and the floats of a line */
 
@@ -305,6 +305,13 @@ typedef struct bgz_count_answer {
     size_t place;     /* The place of a refusal that tells one, and else 0. */
 } bgz_count_answer;
 
+/* The ink of a stroke: a length. */
+typedef struct bgz_ink_answer {
+    uint32_t status;
+    float value;
+    size_t place;     /* The place of a refusal that tells one, and else 0. */
+} bgz_ink_answer;
+
 /* The version of a hatch list, and how many records were read. */
 typedef struct bgz_read_answer {
     uint32_t status;
@@ -505,13 +512,21 @@ bgz_on_edge bgz_edge2_nearest_to_point(bgz_vec2 s, bgz_vec2 e, bgz_vec2 p);
 bgz_float_answer bgz_edge2_intersection_length_against_aabb2(bgz_vec2 s, bgz_vec2 e, bgz_aabb2 b);
 
 /*
- * The ink that the stroke from s to e leaves in the box b: bgz_edge2_intersection_length_against_aabb2, with its
- * refusal, so not the exact length.
- * Refused: BGZ_REFUSED_ORDER if in x the box is not low <= high, as with a NaN, or both ends are NaN; then, unless x
- * shares nothing, the same in y.
- * Example: (0, 0), (6, 8), (0, 0, 3, 4) gives 5.
+ * The ink that the stroke from p0 to p1 leaves in the box b: the length of what it draws there. The stroke's line is
+ * clipped against the box, as by bgz_aabb_intersections_against_line with the origin p0 and the direction p1 - p0, and
+ * the interval is bounded to 0..1. The ink is the bgz_edge2_length between the positions that
+ * bgz_edge2_position_from_ratio gives for the interval's two ends, or 0 if the line misses the box or the bounding
+ * leaves nothing. It is finite and not below 0. With both ends in the box, edges included, it is the bgz_edge2_length
+ * of the stroke, and nothing further is rounded; with both ends beyond one edge of the box it is 0, and so with equal
+ * ends, which are not refused. Otherwise the two positions are rounded, by a few units in the last place of the
+ * stroke's largest coordinate, so that the ink may be above the stroke's length.
+ * Refused: BGZ_REFUSED_NOT_FINITE if of the coordinates p0.x, p0.y, p1.x, p1.y the first that offends is not finite,
+ * BGZ_REFUSED_COORDINATE if it is above 65,536 in size; then BGZ_REFUSED_ORDER if in x the box is not low <= high, as
+ * with a NaN, then the same in y.
+ * Place: that of bgz_edge2_overlapping_pixels_dda.
+ * Example: (0, 0), (4, 3), (0, 0, 2, 3) gives 2.5.
  */
-bgz_float_answer bgz_edge2_ink(bgz_vec2 s, bgz_vec2 e, bgz_aabb2 b);
+bgz_ink_answer bgz_edge2_ink(bgz_vec2 p0, bgz_vec2 p1, bgz_aabb2 b);
 
 /*
  * The pixels under the stroke from p0 to p1, in an image of width by height pixels; a side may be 0. A walk starts at

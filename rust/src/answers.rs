@@ -188,6 +188,21 @@ impl CountAnswer {
 }
 
 #[repr(C)]
+pub struct InkAnswer {
+    pub status: u32,
+    pub value: f32,
+    /// The place of a refusal that tells one, and else 0.
+    pub place: usize,
+}
+
+impl InkAnswer {
+    #[inline]
+    pub fn result_at(self, placed: &[Refusal]) -> Result<f32, RefusalAt> {
+        result_at(self.status, self.value, self.place, placed)
+    }
+}
+
+#[repr(C)]
 pub struct ReadAnswer {
     pub status: u32,
     /// The version.

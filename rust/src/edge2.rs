@@ -138,7 +138,7 @@ mod raw {
         pub safe fn intersection_length_against_aabb2(s: Vec2, e: Vec2, b: Aabb2) -> FloatAnswer;
 
         #[link_name = "bgz_edge2_ink"]
-        pub safe fn ink(s: Vec2, e: Vec2, b: Aabb2) -> FloatAnswer;
+        pub safe fn ink(p0: Vec2, p1: Vec2, b: Aabb2) -> InkAnswer;
 
         #[link_name = "bgz_edge2_overlapping_pixels_dda"]
         pub fn overlapping_pixels_dda(
@@ -192,28 +192,40 @@ pub fn intersection_length_against_aabb2(s: Vec2, e: Vec2, b: Aabb2) -> Result<f
     raw::intersection_length_against_aabb2(s, e, b).result()
 }
 
-/// The ink that the stroke from `s` to `e` leaves in the box `b`:
-/// [`edge2::intersection_length_against_aabb2`](crate::edge2::intersection_length_against_aabb2),
-/// with its refusal, so not the exact length.
+/// The ink that the stroke from `p0` to `p1` leaves in the box `b`: the length of what it draws
+/// there. The stroke's line is clipped against the box, as by
+/// [`aabb::intersections_against_line`](crate::aabb::intersections_against_line) with the origin
+/// `p0` and the direction `p1` - `p0`, and the interval is bounded to 0..1. The ink is the
+/// [`edge2::length`](crate::edge2::length) between the positions that
+/// [`edge2::position_from_ratio`](crate::edge2::position_from_ratio) gives for the interval's two
+/// ends, or 0 if the line misses the box or the bounding leaves nothing. It is finite and not below
+/// 0. With both ends in the box, edges included, it is the [`edge2::length`](crate::edge2::length)
+/// of the stroke, and nothing further is rounded; with both ends beyond one edge of the box it is
+/// 0, and so with equal ends, which are not refused. Otherwise the two positions are rounded, by a
+/// few units in the last place of the stroke's largest coordinate, so that the ink may be above the
+/// stroke's length.
 ///
 /// # Errors
 ///
-/// [`Refusal::ORDER`] if in x the box is not low <= high, as with a NaN, or both ends are NaN;
-/// then, unless x shares nothing, the same in y.
+/// [`Refusal::NOT_FINITE`] if of the coordinates `p0.x`, `p0.y`, `p1.x`, `p1.y` the first that
+/// offends is not finite, [`Refusal::COORDINATE`] if it is above 65,536 in size; then
+/// [`Refusal::ORDER`] if in x the box is not low <= high, as with a NaN, then the same in y.
+///
+/// Place: that of [`edge2::overlapping_pixels_dda`](crate::edge2::overlapping_pixels_dda).
 ///
 /// # Example
 ///
 /// ```
 /// use bagnoszyk::{Aabb2, Vec2, edge2};
 ///
-/// let s = Vec2 { x: 0.0, y: 0.0 };
-/// let e = Vec2 { x: 6.0, y: 8.0 };
-/// let b = Aabb2::from([0.0, 0.0, 3.0, 4.0]);
-/// assert_eq!(edge2::ink(s, e, b), Ok(5.0));
+/// let p0 = Vec2 { x: 0.0, y: 0.0 };
+/// let p1 = Vec2 { x: 4.0, y: 3.0 };
+/// let b = Aabb2::from([0.0, 0.0, 2.0, 3.0]);
+/// assert_eq!(edge2::ink(p0, p1, b), Ok(2.5));
 /// ```
 #[inline]
-pub fn ink(s: Vec2, e: Vec2, b: Aabb2) -> Result<f32, Refusal> {
-    raw::ink(s, e, b).result()
+pub fn ink(p0: Vec2, p1: Vec2, b: Aabb2) -> Result<f32, RefusalAt> {
+    raw::ink(p0, p1, b).result_at(&[Refusal::COORDINATE, Refusal::NOT_FINITE])
 }
 
 /// The pixels under the stroke from `p0` to `p1`, in an image of `width` by `height` pixels; a side

@@ -42,13 +42,14 @@ fn coordinates() {
     assert_eq!(stroke(IMAGE_SIDE_MAX, 1, STROKE_COORDINATE_MAX), Ok(STROKE_ENTRIES_MAX));
     let ends = [-STROKE_COORDINATE_MAX, STROKE_COORDINATE_MAX].map(|x| Vec2 { x, y: 0.0 });
     assert_eq!(edge2::pixels_bound(IMAGE_SIDE_MAX, 1, ends[0], ends[1]), Ok(STROKE_ENTRIES_MAX));
+    assert_eq!(edge2::ink(ends[0], ends[1], [0.0, 0.0, 1.0, 1.0].into()), Ok(1.0));
     assert_eq!(stroke(8, 8, STROKE_COORDINATE_MAX.next_up()), Err(Refusal::COORDINATE.at(2)));
     assert!(tiles(TILE_COORDINATE_MAX, TILE_SIZE_MAX, 8, 8).is_ok());
     assert_eq!(tiles(TILE_COORDINATE_MAX.next_up(), 1, 8, 8), Err(Refusal::COORDINATE));
     assert_eq!(tiles(f32::INFINITY, 1, 8, 8), Err(Refusal::COORDINATE));
 }
 
-/// Each of a stroke's four coordinates in turn, by both walks and the bound; then what tells no place.
+/// Each of a stroke's four coordinates in turn, by both walks, the bound and the ink; then what tells no place.
 #[test]
 fn places() {
     let points = |[x0, y0, x1, y1]: [f32; 4]| (Vec2::from([x0, y0]), Vec2::from([x1, y1]));
@@ -60,6 +61,11 @@ fn places() {
         let (p0, p1) = points(ends);
         edge2::pixels_bound(8, 8, p0, p1)
     };
+    let ink = |ends: [f32; 4], corners: [f32; 4]| {
+        let (p0, p1) = points(ends);
+        edge2::ink(p0, p1, corners.into())
+    };
+    let (ordered, reversed) = ([0.0, 0.0, 2.5, 2.5], [0.0, 2.5, 2.5, 0.0]);
     for place in 0..4 {
         for (x, refusal) in [
             (f32::NAN, Refusal::NOT_FINITE),
@@ -71,6 +77,7 @@ fn places() {
             ends[place] = x;
             assert_eq!(calls(ends, &mut [0; 9]), [Err(refusal.at(place)); 2]);
             assert_eq!(bound(ends), Err(refusal.at(place)));
+            assert_eq!(ink(ends, reversed), Err(refusal.at(place)));
             ends[3] = f32::NAN;
             assert_eq!(calls(ends, &mut []).map(|told| told.unwrap_err().place), [Some(place); 2]);
             assert_eq!(bound(ends).unwrap_err().place, Some(place));
@@ -80,6 +87,8 @@ fn places() {
     assert_eq!(bound([0.5; 4]), Err(Refusal::SAME_ENDS.into()));
     assert_eq!(calls([0.5, 0.5, 3.5, 3.5], &mut []), [Err(Refusal::ROOM.into()); 2]);
     assert_eq!(bound([0.5, 0.5, 3.5, 3.5]), Ok(8));
+    assert_eq!(ink([0.5; 4], reversed), Err(Refusal::ORDER.into()));
+    assert_eq!(ink([0.5; 4], ordered), Ok(0.0));
 }
 
 #[test]

@@ -206,9 +206,10 @@ static void edge2_intersection_length_against_aabb2(const struct arguments *in, 
 
 static void edge2_ink(const struct arguments *in, struct answer *out) {
     const float *f = in->floats;
-    bgz_float_answer r = bgz_edge2_ink(
+    bgz_ink_answer r = bgz_edge2_ink(
         (bgz_vec2){f[0], f[1]}, (bgz_vec2){f[2], f[3]}, (bgz_aabb2){f[4], f[5], f[6], f[7]});
     out->status = r.status;
+    out->place = r.place;
     out->values[0].f = r.value;
 }
 
@@ -866,7 +867,7 @@ const struct routine routines[] = {
     {"edge2.intersection_length_against_aabb2", CALL(edge2_intersection_length_against_aabb2), "ffffffff", "", "f",
      "s.x s.y e.x e.y b.min_x b.min_y b.max_x b.max_y", 0},
     {"edge2.ink", CALL(edge2_ink), "ffffffff", "", "f",
-     "s.x s.y e.x e.y b.min_x b.min_y b.max_x b.max_y", 0},
+     "p0.x p0.y p1.x p1.y b.min_x b.min_y b.max_x b.max_y", AT(COORDINATE) | AT(NOT_FINITE)},
     {"edge2.overlapping_pixels_dda", CALL(edge2_overlapping_pixels_dda), "uuffffr", "u", "l",
      "width height p0.x p0.y p1.x p1.y room", AT(COORDINATE) | AT(NOT_FINITE)},
     {"edge2.pixels_inside", CALL(edge2_pixels_inside), "uuffffr", "u", "l",

@@ -37,10 +37,9 @@ fn twins(figure: &Figure) -> Result<Vec<Figure>, String> {
         let mut twin = args.clone();
         mirror(pair.row.shape, axis, &mut twin.floats);
         let answer = match pair.row.name {
-            // Lines and their box are mirrored: the parameters of their ends stay.
-            "aabb.line" | "aabb.lines" | "aabb.ray" | "aabb_3.line" | "aabb_3.ray" => {
-                figure.answer.clone()
-            }
+            // Lines and their box are mirrored: the parameters of their ends stay, and so does the length that a stroke draws.
+            "aabb.line" | "aabb.lines" | "aabb.ray" | "aabb_3.line" | "aabb_3.ray"
+            | "edge2.ink" => figure.answer.clone(),
             // A stroke is mirrored within its bounds: the judge tells the answer.
             "edge2.overlapping_pixels_dda" | "edge2.pixels_inside" | "edge2.pixels_bound" => {
                 pair.rust_line(&twin)?

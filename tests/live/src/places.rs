@@ -28,6 +28,7 @@ pub fn run() -> Result<(), String> {
     println!(
         "edge2.overlapping_pixels_dda, edge2.pixels_inside, edge2.pixels_bound {strokes} strokes at the limits each, no difference"
     );
+    println!("edge2.ink {} strokes at the limits, no difference", inks()?);
     let files =
         EXAMPLES.iter().map(|floats| files(&hatch_list(floats))).sum::<Result<usize, _>>()?;
     println!(
@@ -36,20 +37,47 @@ pub fn run() -> Result<(), String> {
     Ok(())
 }
 
-/// Each of the coordinates at each of the four places, with every other at the others; in an image that is taken and in one that is not, with
-/// room and without.
+/// Each of the coordinates at each of the four places, with every other at the others.
+fn ends() -> impl Iterator<Item = Vec<f32>> {
+    let end = |number: usize| (0..4).map(|place| COORDINATES[number >> (3 * place) & 7]).collect();
+    (0..8usize.pow(4)).map(end)
+}
+
+/// In an image that is taken and in one that is not, with room and without.
 fn strokes() -> Result<usize, String> {
     let walks = [named("edge2.overlapping_pixels_dda")?, named("edge2.pixels_inside")?];
     let bound = named("edge2.pixels_bound")?;
     let mut count = 0;
-    for number in 0..8usize.pow(4) {
-        let floats = (0..4).map(|place| COORDINATES[number >> (3 * place) & 7]).collect();
+    for floats in ends() {
         let mut args = Args { floats, ..Args::default() };
         for wholes in [[8, 8, 9], [8, 8, 0], [8, 16_385, 9]] {
             args.wholes = wholes.to_vec();
             walks.iter().try_for_each(|walk| walk.compare(&args))?;
             args.wholes.pop();
             bound.compare(&args)?;
+            count += 1;
+        }
+    }
+    Ok(count)
+}
+
+/// In boxes that are taken, an infinite one among them, and in boxes that are not ordered in x, in y, or have a NaN.
+fn inks() -> Result<usize, String> {
+    const INFINITE: f32 = f32::INFINITY;
+    let boxes = [
+        [0.0, 0.0, 4.0, 2.0],
+        [-INFINITE, -INFINITE, INFINITE, INFINITE],
+        [-70_000.0, 1.5, 70_000.0, 1.5],
+        [4.0, 0.0, 0.0, 2.0],
+        [0.0, 2.0, 4.0, 0.0],
+        [0.0, f32::NAN, 4.0, 2.0],
+    ];
+    let ink = named("edge2.ink")?;
+    let mut count = 0;
+    for ends in ends() {
+        for b in boxes {
+            let floats = [&ends[..], &b].concat();
+            ink.compare(&Args { floats, ..Args::default() })?;
             count += 1;
         }
     }

@@ -3,6 +3,7 @@
 mod clip;
 mod face;
 mod file;
+mod ink;
 mod nearest;
 mod root;
 mod space;
@@ -20,6 +21,7 @@ pub fn compared() -> Vec<Case> {
         clip::cases(),
         face::cases(),
         strokes::cases(),
+        ink::cases(),
         tiles::cases(),
         turned::cases(),
         space::cases(),

@@ -36,6 +36,8 @@ pub enum Kind {
     Stroke,
     /// Width and height of an image, two ends.
     Ends,
+    /// Two ends of a stroke, with no image.
+    Pen,
     /// A box, the size of a tile, width and height of a sheet, room.
     Tiles,
     /// Room, and the bytes of a hatch list.
@@ -53,7 +55,7 @@ impl Kind {
         match self {
             Kind::Float | Kind::Radius => "f",
             Kind::Range | Kind::Point | Kind::Direction => "ff",
-            Kind::Box => "ffff",
+            Kind::Box | Kind::Pen => "ffff",
             Kind::TurnedBox | Kind::Box3 => "ffffff",
             Kind::Point3 | Kind::Direction3 => "fff",
             Kind::TurnedBox3 => "ffffffffffff",
@@ -79,7 +81,7 @@ impl Kind {
     fn dimensions(self) -> usize {
         use Kind::*;
         match self {
-            Point | Direction | Box | TurnedBox | Lines | Stroke | Ends | Tiles => 2,
+            Point | Direction | Box | TurnedBox | Lines | Stroke | Ends | Pen | Tiles => 2,
             Point3 | Direction3 | Box3 | TurnedBox3 => 3,
             _ => 0,
         }

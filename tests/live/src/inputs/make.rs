@@ -78,6 +78,12 @@ fn arrange(kind: Kind, floats: &mut [f32], random: &mut Random) {
             let corner = random.pick(&[1.0, 1.0, 1.0, 0.0]);
             [floats[2], floats[5], floats[8]] = [0.0, 0.0, corner];
         }
+        // Within the limit of a stroke's coordinates.
+        Kind::Pen if !random.one_in(4) => {
+            for x in floats.iter_mut().filter(|x| !(x.abs() <= 65_536.0)) {
+                *x = random.around_zero(65_536) as f32;
+            }
+        }
         // In the quadrant of the image.
         Kind::Stroke | Kind::Ends if !random.one_in(4) => {
             floats.iter_mut().for_each(|x| *x = x.abs())

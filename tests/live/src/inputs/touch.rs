@@ -1,4 +1,4 @@
-//! Boxes that touch, ends a whole number apart, and both one ulp off.
+//! Boxes that touch, ends a whole number apart, strokes on a box, and all of these one ulp off.
 
 mod space;
 
@@ -6,13 +6,14 @@ use super::Kind;
 use super::floats::neighbour;
 use crate::random::Random;
 
-/// Puts the second of two boxes beside the first, in space a point or a line on a face of the box, and the second end of a stroke a whole number
-/// away from the first. Other arguments stay as they are.
+/// Puts the second of two boxes beside the first, in space a point or a line on a face of the box, the second end of a stroke a whole number
+/// away from the first, and a stroke on the edges of a box. Other arguments stay as they are.
 pub fn touch(shape: &[Kind], floats: &mut [f32], random: &mut Random) {
     match shape {
         [Kind::TurnedBox, Kind::TurnedBox] => beside(floats, random),
         [Kind::TurnedBox, Kind::Box] => upright_beside(floats, random),
         [Kind::Ends] => whole_apart(floats, random),
+        [Kind::Pen, Kind::Box] => on_box(floats, random),
         [Kind::TurnedBox3, Kind::TurnedBox3] => space::turned_boxes(floats, random),
         [Kind::TurnedBox3, Kind::Point3, ..] => space::point_of_turned_box(floats, random),
         [Kind::Box3, Kind::Box3, ..] => space::boxes(floats, random),
@@ -26,6 +27,16 @@ pub fn touch(shape: &[Kind], floats: &mut [f32], random: &mut Random) {
 fn whole_apart(floats: &mut [f32], random: &mut Random) {
     for i in 0..2 {
         floats[2 + i] = near(floats[i] + random.around_zero(100) as f32, random);
+    }
+}
+
+/// Each coordinate on an edge of the box, halfway between two, or where it was, and one ulp off some of these: strokes along an edge, from edge to
+/// edge, through a corner, inside, of no length.
+fn on_box(floats: &mut [f32], random: &mut Random) {
+    let (ends, corners) = floats.split_at_mut(4);
+    for (i, x) in ends.iter_mut().enumerate() {
+        let (low, high) = (corners[i % 2], corners[i % 2 + 2]);
+        *x = near(random.pick(&[low, high, (low + high) / 2.0, *x]), random);
     }
 }
 

@@ -3,8 +3,8 @@
 use super::{Row, difference, limits, row};
 use crate::answer::{Answer, Refused};
 use crate::ask::Args;
-use crate::inputs::Kind::{Box, Ends, Float, Point, Stroke};
-use del_geo_core::edge2;
+use crate::inputs::Kind::{Box, Ends, Float, Pen, Point, Stroke};
+use del_geo_core::{aabb, edge2, vec2};
 
 pub const ROWS: &[Row] = &[
     row("edge2.length", &[Point, Point], |a| edge2::length(&a.fs(0), &a.fs(2)).into()),
@@ -26,8 +26,10 @@ pub const ROWS: &[Row] = &[
     row("edge2.nearest_to_point", &[Point, Point, Point], |a| {
         nearest(edge2::nearest_to_point(&a.fs(0), &a.fs(2), &a.fs(4)))
     }),
-    row("edge2.intersection_length_against_aabb2", &[Point, Point, Box], length_in_box)
-        .panic_is(limits::ORDER),
+    row("edge2.intersection_length_against_aabb2", &[Point, Point, Box], |a| {
+        edge2::intersection_length_against_aabb2(&a.fs(0), &a.fs(2), &a.fs(4)).into()
+    })
+    .panic_is(limits::ORDER),
     row("edge2.overlapping_pixels_dda", &[Stroke], |a| {
         stroke(a).and_then(|es| listed(es, a)).into()
     }),
@@ -37,16 +39,12 @@ pub const ROWS: &[Row] = &[
     row("edge2.ratio_from_position", &[Point, Point, Point], |a| {
         edge2::ratio_from_position(&a.fs(0), &a.fs(2), &a.fs(4)).into()
     }),
-    // Document 01: the ink of a stroke in a box is taken to be its length there.
-    row("edge2.ink", &[Point, Point, Box], length_in_box).panic_is(limits::ORDER),
+    // Document 02: the length of what a stroke draws in a box.
+    row("edge2.ink", &[Pen, Box], |a| ink(a).into()),
 ];
 
 fn nearest((ratio, [x, y]): (f32, [f32; 2])) -> Answer {
     [ratio, x, y].into()
-}
-
-fn length_in_box(a: &Args) -> Answer {
-    edge2::intersection_length_against_aabb2(&a.fs(0), &a.fs(2), &a.fs(4)).into()
 }
 
 fn stroke(a: &Args) -> Result<Vec<usize>, Refused> {
@@ -73,4 +71,18 @@ fn bound(a: &Args) -> Result<u64, Refused> {
     limits::stroke(a.u(0), a.u(1), &ends)?;
     let larger = difference::rounded_up(x0, x1).max(difference::rounded_up(y0, y1));
     Ok((2 * larger + 2).min(a.u(0).max(a.u(1)) + 1))
+}
+
+/// The Rust has no such routine: its clip of the stroke's line, bounded to 0..1, and its length between its positions at the two ends.
+fn ink(a: &Args) -> Result<f32, Refused> {
+    let (p0, p1, b) = (a.fs(0), a.fs(2), a.fs(4));
+    limits::ink(&a.fs(0), &b)?;
+    let direction = vec2::sub(&p1, &p0);
+    let clipped = aabb::intersections_against_line::<f32, 2, 4>(&b, &p0, &direction);
+    let bounded = clipped.map(|(tmin, tmax)| (tmin.max(0.0), tmax.min(1.0)));
+    let position = |ratio| edge2::position_from_ratio(&p0, &p1, ratio);
+    Ok(match bounded {
+        Some((from, to)) if from <= to => edge2::length(&position(from), &position(to)),
+        _ => 0.0,
+    })
 }

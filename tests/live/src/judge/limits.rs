@@ -26,14 +26,27 @@ const SIDE: u64 = 16_384;
 /// What a check gives: nothing, or a refusal.
 type Checked = Result<(), Refused>;
 
-/// `overlapping_pixels_dda`: 4; 15 or 3, told with the place of the first coordinate that is either; 2; `room` is the 1.
+/// `overlapping_pixels_dda`: 4; 15 or 3; 2; `room` is the 1.
 pub fn stroke(width: u64, height: u64, ends: &[f32; 4]) -> Checked {
     refuse(width > SIDE || height > SIDE, SIZE)?;
+    coordinates(ends)?;
+    refuse(ends[..2] == ends[2..], SAME_ENDS)
+}
+
+/// `ink`: 15 or 3; then 5, in x and in y.
+pub fn ink(ends: &[f32; 4], &[low_x, low_y, high_x, high_y]: &[f32; 4]) -> Checked {
+    coordinates(ends)?;
+    refuse(!(low_x <= high_x), ORDER)?;
+    refuse(!(low_y <= high_y), ORDER)
+}
+
+/// The ends of a stroke: 15 or 3, told with the place of the first coordinate that is either.
+fn coordinates(ends: &[f32; 4]) -> Checked {
     for (place, x) in ends.iter().enumerate() {
         refuse_at(!x.is_finite(), NOT_FINITE, place)?;
         refuse_at(x.abs() > 65_536.0, COORDINATE, place)?;
     }
-    refuse(ends[..2] == ends[2..], SAME_ENDS)
+    Ok(())
 }
 
 /// `overlapping_tiles`: 4, 3; `room` is the 1.

@@ -3,11 +3,11 @@
 //! None of these may be inlined: a call into the library is not.
 
 use bagnoszyk::answers::{
-    ANSWERED, BoolAnswer, CountAnswer, IntervalAnswer, NONE, PointAnswer, ReadAnswer,
+    ANSWERED, BoolAnswer, CountAnswer, InkAnswer, IntervalAnswer, NONE, PointAnswer, ReadAnswer,
 };
 use bagnoszyk::shapes::{Aabb2, Aabb3, Obb2, Obb3, OnEdge, SqrtDigits, Vec2, Vec3};
 use del_geo_core::obb2::OBB2Trait;
-use del_geo_core::{aabb, aabb2, edge2, obb3};
+use del_geo_core::{aabb, aabb2, edge2, obb3, vec2};
 
 #[inline(never)]
 pub extern "C" fn intersections_against_line(
@@ -94,6 +94,20 @@ pub unsafe extern "C" fn pixels_inside(
     let entries = &entries[..entries.len() - 1];
     let list = unsafe { std::slice::from_raw_parts_mut(list, room) };
     copied(entries.iter().copied(), entries.len(), list)
+}
+
+/// The Rust has no such routine: its clip, bounded to 0..1, and its length between its positions, with none of the library's refusals.
+#[inline(never)]
+pub extern "C" fn ink(p0: Vec2, p1: Vec2, b: Aabb2) -> InkAnswer {
+    let (p0, p1): ([f32; 2], [f32; 2]) = (p0.into(), p1.into());
+    let direction = vec2::sub(&p1, &p0);
+    let clipped = aabb::intersections_against_line::<f32, 2, 4>(&b.into(), &p0, &direction);
+    let position = |ratio| edge2::position_from_ratio(&p0, &p1, ratio);
+    let value = match clipped.map(|(tmin, tmax)| (tmin.max(0.0), tmax.min(1.0))) {
+        Some((from, to)) if from <= to => edge2::length(&position(from), &position(to)),
+        _ => 0.0,
+    };
+    InkAnswer { status: ANSWERED, value, place: 0 }
 }
 
 /// # Safety
