@@ -1,12 +1,12 @@
--- `stroke_ink::ink` meets its contract: each answer is what the definition picks by the tests that led there, and the promise follows from
--- the definition. Assumes nothing.
+-- `stroke_ink::ink` meets its contract: each answer is what the definition picks by the tests that led there, and what is promised of it holds.
+-- Assumes nothing.
 use mathlib.Core.Path.{_≡_, sym, _∙_}
 use borrow.Author.Needs.{needs}
 use Rattle.stroke.specs.declared.check.Offender.the-variants.{None}
 use Rattle.stroke.specs.Check.{firstOffender, coordinates, unlessOffender}
 use Rattle.stroke.proofs.Accepted.{AreFloats}
 use Rattle.stroke_ink.specs.Ink.{inkOf}
-use Rattle.stroke_ink.proofs.Promised.{promised}
+use Rattle.stroke_ink.proofs.Promised.{refused, refused-at, measured}
 use Rattle.stroke_ink.proofs.ink.Statement.{statement}
 use Rattle.stroke_ink.proofs.ink.Tie as tie
 
@@ -26,10 +26,7 @@ fit c = sym (c .before .before .first-offender .ensures) ∙ c .enum-told .given
 
 returns : tie.Need-returns
 unfolding inkOf unlessOffender
-returns c =
-    let found = c .before in
-    let check = found .before .before in
-    promised (floats-at (check .before .before)) (rw (sym (check .first-offender .ensures) ∙ found .number .given .1))
+returns c = let found = c .before in refused-at (rw (sym (found .before .before .first-offender .ensures) ∙ found .number .given .1))
 
 returns-2 : tie.Need-returns-2
 unfolding inkOf unlessOffender
@@ -37,20 +34,16 @@ returns-2 c =
     let y = c .before in
     let x = y .before .before in
     let none = x .before .before in
-    promised (floats-at (start none)) (rw (fit none, x .if1 .taken, y .if2 .taken, c .drawn .ensures))
+    measured (floats-at (start none)) (fit none) (x .if1 .taken) (y .if2 .taken) (c .drawn .ensures)
+    (rw (fit none, x .if1 .taken, y .if2 .taken, c .drawn .ensures))
 
 returns-3 : tie.Need-returns-3
 unfolding inkOf unlessOffender
-returns-3 c =
-    let x = c .before .before in
-    let none = x .before .before in
-    promised (floats-at (start none)) (rw (fit none, x .if1 .taken, c .if2 .left))
+returns-3 c = let x = c .before .before in refused (rw (fit (x .before .before), x .if1 .taken, c .if2 .left))
 
 returns-4 : tie.Need-returns-4
 unfolding inkOf unlessOffender
-returns-4 c =
-    let none = c .before .before in
-    promised (floats-at (start none)) (rw (fit none, c .if1 .left))
+returns-4 c = refused (rw (fit (c .before .before), c .if1 .left))
 
 pub ink-spec : {M : Type 1} → statement M
 ink-spec = tie.close (tie.spec
