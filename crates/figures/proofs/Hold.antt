@@ -15,8 +15,8 @@ use Rattle.lists.specs.Places.{upto}
 use Rattle.stroke.specs.Walk.{stepOf, axisOf, at, within, inRanges, firstOutside, exit, positions}
 use Rattle.stroke.specs.Image.{onSide, inSides}
 use Rattle.pixels.specs.Entries.{number, kept, pixels, entries, strokeOf}
-use Rattle.stroke.specs.Check.{sidesTooLarge, withinLimit, numberOf, offenderFrom, sameEnds, unlessOffender, acceptOf}
-use Rattle.stroke.specs.Answer.{ifAccepted}
+use Rattle.stroke_check.specs.Check.{sidesTooLarge, withinLimit, numberOf, offenderFrom, sameEnds, unlessOffender, acceptOf}
+use Rattle.stroke_check.specs.Answer.{ifAccepted}
 use Rattle.stroke_bound.specs.Bound.{largerDifferenceOf, pixelsBoundOf}
 use Rattle.pixels.specs.Answer.{walkOf}
 use Rattle.stroke_ink.specs.Ink.{boundedOf, lengthOver, drawnOf, inkOf}

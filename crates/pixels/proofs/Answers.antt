@@ -15,7 +15,8 @@ use Rattle.stroke.specs.declared.axis.Axis.{Axis}
 use Rattle.stroke.specs.Walk.{exit, positions, alongX, alongY}
 use Rattle.stroke.specs.Image.{oneIf}
 use Rattle.stroke.specs.Steps.{Sized}
-use Rattle.stroke.proofs.Accepted.{Passed, sized-x, sized-y}
+use Rattle.stroke_check.proofs.Accepted.{Passed}
+use Rattle.stroke.proofs.Axes.{sized-x, sized-y}
 use Rattle.pixels.specs.Entries.{entries, strokeOf}
 use Rattle.pixels.specs.Post.{entered, Drawn, closed, Closed, Listing}
 use Rattle.pixels.proofs.Writing.{closed-length}

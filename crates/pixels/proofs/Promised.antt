@@ -10,11 +10,12 @@ use Rattle.types.specs.declared.answer.Listed.{Listed}
 use Rattle.types.specs.declared.answer.Listed.the-variants.{Refused, RefusedAt}
 use Rattle.lists.specs.Lent.{leaves}
 use Rattle.lists.proofs.Lent.{no-count, no-count-at, no-place, same-refusal, fitted-count, fitted-short}
-use Rattle.stroke.specs.declared.check.Acceptance.the-variants.{Accepted, Refused as Denied, RefusedAt as DeniedAt}
+use Rattle.stroke_check.specs.declared.Acceptance.the-variants.{Accepted, Refused as Denied, RefusedAt as DeniedAt}
 use Rattle.stroke.specs.Walk.{exit, positions, alongX, alongY}
-use Rattle.stroke.specs.Check.{acceptOf}
-use Rattle.stroke.specs.Answer.{ifAccepted}
-use Rattle.stroke.proofs.Accepted.{Passed, stroke-stops}
+use Rattle.stroke_check.specs.Check.{acceptOf}
+use Rattle.stroke_check.specs.Answer.{ifAccepted}
+use Rattle.stroke_check.proofs.Accepted.{Passed}
+use Rattle.stroke.proofs.Axes.{stroke-stops}
 use Rattle.stroke_bound.specs.Bound.{mostByEnds}
 use Rattle.stroke_bound.proofs.Positions.{exit-bound, larger-some}
 use Rattle.pixels.specs.Entries.{entries, strokeOf}

@@ -13,7 +13,8 @@ use Rattle.rounded.proofs.Down.{both}
 use Rattle.stroke.specs.declared.axis.Axis.{Axis}
 use Rattle.stroke.specs.Walk.{axisOf, at, position, mostSteps, exit, positions, alongX, alongY}
 use Rattle.stroke.specs.Image.{onSide, inSides, onImage}
-use Rattle.stroke.proofs.Accepted.{Accepted, sized-x, sized-y, major}
+use Rattle.stroke_check.proofs.Accepted.{Accepted}
+use Rattle.stroke.proofs.Axes.{sized-x, sized-y, major}
 use Rattle.stroke.proofs.Stops.{exit-le}
 use Rattle.stroke.proofs.Sides.{count-le}
 use Rattle.stroke_bound.specs.Bound.{mostBySides}

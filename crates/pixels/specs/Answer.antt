@@ -4,8 +4,8 @@ use Prim.Native.Nat.{ℕ}
 use Rattle.types.specs.declared.shape.Vec2.{Vec2}
 use Rattle.types.specs.declared.answer.Listed.{Listed}
 use Rattle.lists.specs.Lent.{fitted}
-use Rattle.stroke.specs.Check.{acceptOf}
-use Rattle.stroke.specs.Answer.{ifAccepted}
+use Rattle.stroke_check.specs.Check.{acceptOf}
+use Rattle.stroke_check.specs.Answer.{ifAccepted}
 use Rattle.pixels.specs.Entries.{strokeOf}
 
 -- the number of the stroke's entries, with the closing one or without it, if the stroke is accepted and a list of this length takes them

@@ -3,14 +3,14 @@ use crate::image::cut;
 use crate::measure::measure;
 use crate::measure::one_if;
 use crate::write::write;
-use stroke::Acceptance;
 use stroke::Axis;
+use stroke_check::Acceptance;
 use types::Listed;
 use types::Vec2;
 ghost use mathlib.Core.Path.{_≡_};
 ghost use mathlib.Core.Bool.{true, false};
-ghost use Rattle.stroke.specs.Check.{acceptOf};
-ghost use Rattle.stroke.specs.declared.check.Acceptance.the-variants.{Accepted};
+ghost use Rattle.stroke_check.specs.Check.{acceptOf};
+ghost use Rattle.stroke_check.specs.declared.Acceptance.the-variants.{Accepted};
 ghost use Rattle.pixels.specs.Entries.{entries};
 ghost use Rattle.pixels.specs.Promise.{Promise};
 ghost use Rattle.pixels.specs.Post.{Drawn, Listing};
@@ -52,7 +52,7 @@ fn draw(closing: bool, width: usize, height: usize, p0: Vec2, p1: Vec2, list: &m
 fn walk(closing: bool, width: usize, height: usize, p0: Vec2, p1: Vec2, list: &mut [u32]) -> Listed
     ensures { λ r. ⌜ Promise closing width height p0 p1 (now (list .entry)) r (now (list .exit)) ⌝ }
 {
-    match stroke::accept(width, height, p0, p1) {
+    match stroke_check::accept(width, height, p0, p1) {
         Acceptance::Accepted => draw(closing, width, height, p0, p1, list),
         Acceptance::Refused(number) => Listed::Refused(number),
         Acceptance::RefusedAt { number, place } => Listed::RefusedAt { number, place },

@@ -1,6 +1,5 @@
 pub mod Outside
 pub mod Stops
-pub mod Offenders
-pub mod Accepted
+pub mod Axes
 pub mod Walking
 pub mod Sides

@@ -1,6 +1,5 @@
-// A stroke as its walk sees it: two axes, the positions, where the walk leaves the ranges of its ends, and what is tested before.
+// A stroke as its walk sees it: two axes, the positions, and where the walk leaves the ranges of its ends.
 mod axis;
-mod check;
 mod image;
 mod walk;
 
@@ -9,10 +8,6 @@ pub use axis::axis_of;
 pub use axis::first;
 pub use axis::next;
 pub use axis::step_of;
-pub use check::Acceptance;
-pub use check::Offender;
-pub use check::accept;
-pub use check::first_offender;
 pub use image::in_sides;
 pub use walk::exit_of;
 pub use walk::steps_on;

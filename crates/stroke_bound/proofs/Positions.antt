@@ -21,7 +21,8 @@ use Rattle.rounded.proofs.Halves.{Half, half-wider, past-half, high-half, low-h
 use Rattle.stroke.specs.Walk.{stepOf, axisOf, at, within, inRanges, goesOn, mostSteps, exit, alongX, alongY}
 use Rattle.stroke.specs.Steps.{Sized}
 use Rattle.stroke.proofs.Outside.{Major, past-from, reach, within-reach, directed-size}
-use Rattle.stroke.proofs.Accepted.{Coordinate, Accepted, sized-x, sized-y, major, stroke-stops}
+use Rattle.stroke_check.proofs.Accepted.{Coordinate, Accepted}
+use Rattle.stroke.proofs.Axes.{sized-x, sized-y, major, stroke-stops}
 use Rattle.stroke_bound.specs.Bound.{differenceOf, largerDifferenceOf}
 use Rattle.stroke_bound.proofs.UpTo.{up-to-over}
 use Rattle.stroke_bound.proofs.Far.{Far, far-of, far-neg, far-none, far-half}

@@ -8,8 +8,8 @@ use Rattle.types.specs.declared.answer.Listed.{Listed}
 use Rattle.types.specs.declared.answer.Listed.the-variants.{Count}
 use Rattle.float.specs.Units.{unitsOf}
 use Rattle.stroke.specs.Image.{oneIf}
-use Rattle.stroke.specs.Check.{acceptOf}
-use Rattle.stroke.specs.Answer.{ifAccepted}
+use Rattle.stroke_check.specs.Check.{acceptOf}
+use Rattle.stroke_check.specs.Answer.{ifAccepted}
 
 -- ---- D
 

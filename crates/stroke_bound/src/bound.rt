@@ -1,14 +1,14 @@
 // The bound on a stroke's entries, by its ends and by the image's sides.
 use crate::difference::larger;
 use crate::difference::larger_difference;
-use stroke::Acceptance;
+use stroke_check::Acceptance;
 use types::Listed;
 use types::Vec2;
 ghost use mathlib.Core.Path.{_≡_};
 ghost use mathlib.Core.Bool.{true};
 ghost use Prim.Native.Nat.{min};
-ghost use Rattle.stroke.specs.Check.{acceptOf};
-ghost use Rattle.stroke.specs.declared.check.Acceptance.the-variants.{Accepted};
+ghost use Rattle.stroke_check.specs.Check.{acceptOf};
+ghost use Rattle.stroke_check.specs.declared.Acceptance.the-variants.{Accepted};
 ghost use Rattle.stroke_bound.specs.Bound.{mostEntries, pixelsBoundOf};
 
 fn lesser(a: usize, b: usize) -> usize
@@ -32,7 +32,7 @@ fn most_entries(width: usize, height: usize, p0: Vec2, p1: Vec2) -> usize
 pub fn pixels_bound(width: usize, height: usize, p0: Vec2, p1: Vec2) -> Listed
     ensures { λ r. ⌜ r ≡ pixelsBoundOf width height p0 p1 ⌝ }
 {
-    match stroke::accept(width, height, p0, p1) {
+    match stroke_check::accept(width, height, p0, p1) {
         Acceptance::Accepted => Listed::Count(most_entries(width, height, p0, p1)),
         Acceptance::Refused(number) => Listed::Refused(number),
         Acceptance::RefusedAt { number, place } => Listed::RefusedAt { number, place },

@@ -15,7 +15,7 @@ use Rattle.edge2_measure.specs.Measure.{lengthOf, positionFromRatioOf}
 use Rattle.aabb.specs.Clip.{orderedOf}
 use Rattle.rounded.proofs.Round.{signedZero}
 use Rattle.rounded.proofs.Signed.{le-not}
-use Rattle.stroke.proofs.Accepted.{Bounded}
+use Rattle.stroke_check.proofs.Accepted.{Bounded}
 use Rattle.stroke_ink.specs.Ink.{boundedOf, lengthOver}
 use Rattle.stroke_ink.proofs.Ends.{Number, AtMost, AtLeast, min-number, max-number, min-most-first, max-most, max-least-first, min-least, is-zero, is-one}
 use Rattle.stroke_ink.proofs.Narrowed.{Spans, Outside}

@@ -23,8 +23,8 @@ use Rattle.rounded.proofs.Signed.{le-not}
 use Rattle.rounded.proofs.Order.{le-numbers, le-of, level-itself, level-turned, level-sub}
 use Rattle.rounded.proofs.Numbers.{sized-number, sub-number}
 use Rattle.rounded.proofs.Exact.{sub-itself}
-use Rattle.stroke.specs.Check.{sameEnds}
-use Rattle.stroke.proofs.Accepted.{Coordinate, Bounded, difference-size}
+use Rattle.stroke_check.specs.Check.{sameEnds}
+use Rattle.stroke_check.proofs.Accepted.{Coordinate, Bounded, difference-size}
 use Rattle.stroke_ink.specs.Ink.{clippedOf, boundedOf, lengthOver, drawnOf}
 use Rattle.stroke_ink.specs.Promise.{beyondOne, beyondAnEdge}
 use Rattle.stroke_ink.proofs.Ends.{Number}

@@ -29,7 +29,7 @@ use Rattle.rounded.proofs.Round.{MagOver, round-over}
 use Rattle.rounded.proofs.Sizes.{size-wider, sub-size}
 use Rattle.rounded.proofs.Signed.{le-not}
 use Rattle.rounded.proofs.Order.{unlike-same, le-of}
-use Rattle.stroke.proofs.Accepted.{Coordinate, Bounded}
+use Rattle.stroke_check.proofs.Accepted.{Coordinate, Bounded}
 use Rattle.stroke_ink.specs.Ink.{boundedOf, lengthOver}
 use Rattle.stroke_ink.proofs.Ends.{Number, min-number, max-number}
 use Rattle.stroke_ink.proofs.Narrowed.{Numbers}

@@ -16,7 +16,7 @@ use Rattle.rounded.proofs.Sizes.{size-wider, add-size, sub-size, mul-size}
 use Rattle.rounded.proofs.Order.{level-trans, level-sub, level-square}
 use Rattle.rounded.proofs.Numbers.{sized-number, sub-number}
 use Rattle.rounded.proofs.Exact.{add-turned, plus-zero, times-zero, times-one, one-less-zero, sub-itself}
-use Rattle.stroke.proofs.Accepted.{Coordinate, Bounded}
+use Rattle.stroke_check.proofs.Accepted.{Coordinate, Bounded}
 
 -- ---- sizes
 

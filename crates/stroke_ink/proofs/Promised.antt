@@ -8,9 +8,9 @@ use lib.Ieee.{Float, le}
 use Rattle.types.specs.declared.shape.Vec2.{Vec2}
 use Rattle.types.specs.declared.shape.Aabb2.{Aabb2}
 use Rattle.types.specs.declared.answer.Ink.the-variants.{Some, Refused, RefusedAt}
-use Rattle.stroke.specs.declared.check.Offender.the-variants.{None}
-use Rattle.stroke.specs.Check.{firstOffender, coordinates}
-use Rattle.stroke.proofs.Accepted.{AreFloats, bounded}
+use Rattle.stroke_check.specs.declared.Offender.the-variants.{None}
+use Rattle.stroke_check.specs.Check.{firstOffender, coordinates}
+use Rattle.stroke_check.proofs.Accepted.{AreFloats, bounded}
 use Rattle.stroke_ink.specs.Ink.{drawnOf, inkOf}
 use Rattle.stroke_ink.specs.Promise.{Inked, Promise}
 use Rattle.stroke_ink.proofs.Laws.{is-length, whole, missed, outside, no-length}

@@ -12,7 +12,7 @@ use Rattle.float.specs.Values.{minOf, maxOf}
 use Rattle.vec2.specs.Values.{subOf}
 use Rattle.edge2_measure.specs.Measure.{lengthOf, positionFromRatioOf}
 use Rattle.aabb.specs.Clip.{orderedOf, intersectionsAgainstLineOf}
-use Rattle.stroke.specs.Check.{firstOffender, coordinates, unlessOffender}
+use Rattle.stroke_check.specs.Check.{firstOffender, coordinates, unlessOffender}
 
 -- "clip the stroke's line with its first end and rounded difference"
 abbrev pub clippedOf : Vec2 → Vec2 → Aabb2 → Interval

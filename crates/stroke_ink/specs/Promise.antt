@@ -11,7 +11,7 @@ use Rattle.types.specs.declared.answer.Ink.the-variants.{Some}
 use Rattle.float.specs.Rounded.{+0}
 use Rattle.edge2_measure.specs.Measure.{lengthOf}
 use Rattle.aabb.specs.Inside.{isIncludePointOf}
-use Rattle.stroke.specs.Check.{sameEnds}
+use Rattle.stroke_check.specs.Check.{sameEnds}
 use Rattle.stroke_ink.specs.Ink.{clippedOf, inkOf}
 
 -- in one dimension, p and q both lie below `low`, or both above `high`

@@ -1,5 +1,6 @@
 // The ink that a pen stroke leaves in an upright box: the length of what it draws there.
-use stroke::Offender;
+use stroke_check::Offender;
+use stroke_check::first_offender;
 use types::Aabb2;
 use types::Ink;
 use types::Interval;
@@ -49,7 +50,7 @@ fn drawn(p0: Vec2, p1: Vec2, b: Aabb2) -> f32
 pub fn ink(p0: Vec2, p1: Vec2, b: Aabb2) -> Ink
     ensures { λ r. ⌜ Promise p0 p1 b r ⌝ }
 {
-    if let Offender::Found { number, place } = stroke::first_offender(&[p0.x, p0.y, p1.x, p1.y]) {
+    if let Offender::Found { number, place } = first_offender(&[p0.x, p0.y, p1.x, p1.y]) {
         return Ink::RefusedAt { number, place };
     }
     if b.min_x <= b.max_x {

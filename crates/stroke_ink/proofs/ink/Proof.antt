@@ -2,9 +2,9 @@
 -- Assumes nothing.
 use mathlib.Core.Path.{_≡_, sym, _∙_}
 use borrow.Author.Needs.{needs}
-use Rattle.stroke.specs.declared.check.Offender.the-variants.{None}
-use Rattle.stroke.specs.Check.{firstOffender, coordinates, unlessOffender}
-use Rattle.stroke.proofs.Accepted.{AreFloats}
+use Rattle.stroke_check.specs.declared.Offender.the-variants.{None}
+use Rattle.stroke_check.specs.Check.{firstOffender, coordinates, unlessOffender}
+use Rattle.stroke_check.proofs.Accepted.{AreFloats}
 use Rattle.stroke_ink.specs.Ink.{inkOf}
 use Rattle.stroke_ink.proofs.Promised.{refused, refused-at, measured}
 use Rattle.stroke_ink.proofs.ink.Statement.{statement}

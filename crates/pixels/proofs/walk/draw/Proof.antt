@@ -7,7 +7,8 @@ use lib.Ieee.{Float}
 use Rattle.rounded.specs.Size.{Size}
 use Rattle.rounded.proofs.Sizes.{size-wider}
 use Rattle.stroke.specs.Walk.{stepOf, axisOf}
-use Rattle.stroke.proofs.Accepted.{AreFloats, Passed, passed, step-size}
+use Rattle.stroke_check.proofs.Accepted.{AreFloats, Passed, passed}
+use Rattle.stroke.proofs.Axes.{step-size}
 use Rattle.pixels.proofs.Lists.{one-le}
 use Rattle.pixels.proofs.Answers.{Made, made-drawn, made-listing}
 use Rattle.pixels.proofs.Promised.{walked}

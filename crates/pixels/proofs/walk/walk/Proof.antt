@@ -1,7 +1,7 @@
 -- `pixels::walk` meets its contract: what was found of the stroke decides. Assumes nothing.
 use mathlib.Core.Path.{sym, _∙_}
 use borrow.Author.Needs.{needs}
-use Rattle.stroke.proofs.Accepted.{not-short}
+use Rattle.stroke_check.proofs.Accepted.{not-short}
 use Rattle.pixels.proofs.Promised.{refused, refused-at}
 use Rattle.pixels.proofs.walk.walk.Statement.{statement}
 use Rattle.pixels.proofs.walk.walk.Tie as tie

@@ -1,7 +1,7 @@
 -- `stroke_bound::most_entries` meets its contract: by what its calls ensure. Assumes nothing.
 use native.Mathlib.Omega.{arith}
 use borrow.Author.Needs.{needs}
-use Rattle.stroke.proofs.Accepted.{AreFloats, Passed, passed}
+use Rattle.stroke_check.proofs.Accepted.{AreFloats, Passed, passed}
 use Rattle.stroke_bound.proofs.bound.most_entries.Statement.{statement}
 use Rattle.stroke_bound.proofs.bound.most_entries.Tie as tie
 

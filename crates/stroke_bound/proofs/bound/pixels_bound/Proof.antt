@@ -1,7 +1,7 @@
 -- `stroke_bound::pixels_bound` meets its contract: what was found of the stroke decides. Assumes nothing.
 use mathlib.Core.Path.{sym, _∙_}
 use borrow.Author.Needs.{needs}
-use Rattle.stroke.specs.Answer.{ifAccepted}
+use Rattle.stroke_check.specs.Answer.{ifAccepted}
 use Rattle.stroke_bound.specs.Bound.{pixelsBoundOf}
 use Rattle.stroke_bound.proofs.bound.pixels_bound.Statement.{statement}
 use Rattle.stroke_bound.proofs.bound.pixels_bound.Tie as tie

@@ -1,7 +1,7 @@
 // What is tested of a stroke before it is walked, and of its coordinates before its ink is measured.
 use types::Vec2;
 ghost use mathlib.Core.Path.{_≡_};
-ghost use Rattle.stroke.specs.Check.{sidesTooLarge, withinLimit, numberOf, firstOffender, sameEnds, acceptOf};
+ghost use Rattle.stroke_check.specs.Check.{sidesTooLarge, withinLimit, numberOf, firstOffender, sameEnds, acceptOf};
 
 // A coordinate that is refused, by the number of its refusal and its place in a list; or that there is none.
 pub enum Offender {

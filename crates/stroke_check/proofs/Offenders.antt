@@ -7,8 +7,8 @@ use native.Mathlib.Numerals.{add-one}
 use lib.ListN.{length, getD, drop, drop-of-length-le}
 use lib.Seq.{drop-cons}
 use lib.Ieee.{Float, nan}
-use Rattle.stroke.specs.declared.check.Offender.the-variants.{None, Found}
-use Rattle.stroke.specs.Check.{withinLimit, numberOf, offenderFrom, firstOffender}
+use Rattle.stroke_check.specs.declared.Offender.the-variants.{None, Found}
+use Rattle.stroke_check.specs.Check.{withinLimit, numberOf, offenderFrom, firstOffender}
 
 module _ (xs : List Float) where
   pub record Left (i : ℕ) : Type 0 where

@@ -1,8 +1,8 @@
 -- What a routine answers of a stroke that may be refused. Definitions only.
 use Rattle.types.specs.declared.answer.Listed.{Listed}
 use Rattle.types.specs.declared.answer.Listed.the-variants.{Refused, RefusedAt}
-use Rattle.stroke.specs.declared.check.Acceptance.{Acceptance}
-use Rattle.stroke.specs.declared.check.Acceptance.the-variants.{Accepted, Refused as Denied, RefusedAt as DeniedAt}
+use Rattle.stroke_check.specs.declared.Acceptance.{Acceptance}
+use Rattle.stroke_check.specs.declared.Acceptance.the-variants.{Accepted, Refused as Denied, RefusedAt as DeniedAt}
 
 -- the refusal, and r if there is none
 unfoldable pub ifAccepted : Acceptance → Listed → Listed

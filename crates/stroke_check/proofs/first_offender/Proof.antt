@@ -1,14 +1,14 @@
--- `stroke::first_offender` meets its contract: each turn leaves one coordinate less to look at. Assumes nothing.
+-- `stroke_check::first_offender` meets its contract: each turn leaves one coordinate less to look at. Assumes nothing.
 use mathlib.Core.Path.{sym, ap, _∙_}
 use Prim.Native.Nat.{ℕ, _≤_, _-_}
 use native.Mathlib.Omega.{arith}
 use borrow.Author.Needs.{needs}
 use borrow.Author.Tests.{not-true, not-false}
 use lib.ListN.{length}
-use Rattle.stroke.specs.declared.check.Offender.the-variants.{Found}
-use Rattle.stroke.proofs.Offenders.{Left, left-none, left-more, left-found, left-end}
-use Rattle.stroke.proofs.check.first_offender.Statement.{statement}
-use Rattle.stroke.proofs.check.first_offender.Tie as tie
+use Rattle.stroke_check.specs.declared.Offender.the-variants.{Found}
+use Rattle.stroke_check.proofs.Offenders.{Left, left-none, left-more, left-found, left-end}
+use Rattle.stroke_check.proofs.first_offender.Statement.{statement}
+use Rattle.stroke_check.proofs.first_offender.Tie as tie
 
 abbrev Inv-loop : tie.InvT-loop
 Inv-loop coordinates place₀ place = (place ≤ length coordinates) × Left coordinates place

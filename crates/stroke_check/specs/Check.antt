@@ -7,10 +7,10 @@ use lib.Ieee.{Float, binary32, ofBits, le, eq}
 use lib.Ieee.Scale.{finite}
 use Rattle.types.specs.declared.shape.Vec2.{Vec2}
 use Rattle.float.specs.Values.{absOf}
-use Rattle.stroke.specs.declared.check.Offender.{Offender}
-use Rattle.stroke.specs.declared.check.Offender.the-variants.{None, Found}
-use Rattle.stroke.specs.declared.check.Acceptance.{Acceptance}
-use Rattle.stroke.specs.declared.check.Acceptance.the-variants.{Accepted, Refused, RefusedAt}
+use Rattle.stroke_check.specs.declared.Offender.{Offender}
+use Rattle.stroke_check.specs.declared.Offender.the-variants.{None, Found}
+use Rattle.stroke_check.specs.declared.Acceptance.{Acceptance}
+use Rattle.stroke_check.specs.declared.Acceptance.the-variants.{Accepted, Refused, RefusedAt}
 
 -- an image side above 16,384
 unfoldable pub sidesTooLarge : ℕ → ℕ → Bool

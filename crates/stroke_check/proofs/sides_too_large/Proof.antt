@@ -1,8 +1,8 @@
--- `stroke::sides_too_large` meets its contract: each answer is what the definition picks by the test that led there. Assumes nothing.
+-- `stroke_check::sides_too_large` meets its contract: each answer is what the definition picks by the test that led there. Assumes nothing.
 use borrow.Author.Tests.{lt-ltb, le-ltb}
-use Rattle.stroke.specs.Check.{sidesTooLarge}
-use Rattle.stroke.proofs.check.sides_too_large.Statement.{statement}
-use Rattle.stroke.proofs.check.sides_too_large.Tie as tie
+use Rattle.stroke_check.specs.Check.{sidesTooLarge}
+use Rattle.stroke_check.proofs.sides_too_large.Statement.{statement}
+use Rattle.stroke_check.proofs.sides_too_large.Tie as tie
 
 returns : tie.Need-returns
 unfolding sidesTooLarge

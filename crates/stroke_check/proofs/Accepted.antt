@@ -1,4 +1,4 @@
--- An accepted stroke: what the tests say of its ends, and that its walk leaves their ranges by itself. Assumes nothing.
+-- What the tests say of a stroke's ends where none of them refuses it. Assumes nothing.
 use mathlib.Core.Path.{_≡_, refl, sym, _∙_, subst}
 use mathlib.Core.Bool.{Bool, true, false, _&&_, _||_, cond, true≢false}
 use mathlib.Core.Logic.{_⊎_, inl, inr}
@@ -11,25 +11,16 @@ use lib.IntN.{pos}
 use lib.Dec.{T, ltb, lit≤}
 use lib.Ieee.{Float, nan, inf, fin, binary32, up, lt, le, eq, isNan, fits, ofBits}
 use Rattle.types.specs.declared.shape.Vec2.{Vec2}
-use Rattle.float.specs.Rounded.{_⊖_, _⊘_, epsilon}
-use Rattle.float.specs.Values.{absOf, minOf, maxOf}
+use Rattle.float.specs.Rounded.{_⊖_}
+use Rattle.float.specs.Values.{absOf}
 use Rattle.float.proofs.Tests.{neither}
 use Rattle.rounded.specs.Size.{Size}
 use Rattle.rounded.proofs.Round.{le-num}
-use Rattle.rounded.proofs.Sizes.{cond-both, abs-size, add-size, sub-size}
-use Rattle.rounded.proofs.Apart.{NonZero, apart}
-use Rattle.rounded.proofs.Slopes.{Slopes, slopes}
-use Rattle.stroke.specs.Walk.{stepOf, axisOf, alongX, alongY}
-use Rattle.stroke.specs.Stops.{Stops}
-use Rattle.stroke.specs.declared.check.Offender.{Offender}
-use Rattle.stroke.specs.declared.check.Offender.the-variants.{None, Found}
-use Rattle.stroke.specs.declared.check.Acceptance.the-variants.{Accepted as Yes, Refused, RefusedAt}
-use Rattle.stroke.specs.Check.{sidesTooLarge, withinLimit, numberOf, offenderFrom, firstOffender, coordinates, sameEnds, unlessOffender, acceptOf}
-use Rattle.stroke.specs.Steps.{Sized}
-use Rattle.stroke.proofs.Outside.{Major, outside}
-use Rattle.stroke.proofs.Stops.{stops}
-
--- ---- what the tests say
+use Rattle.rounded.proofs.Sizes.{sub-size}
+use Rattle.stroke_check.specs.declared.Offender.{Offender}
+use Rattle.stroke_check.specs.declared.Offender.the-variants.{None, Found}
+use Rattle.stroke_check.specs.declared.Acceptance.the-variants.{Accepted as Yes, Refused, RefusedAt}
+use Rattle.stroke_check.specs.Check.{sidesTooLarge, withinLimit, numberOf, offenderFrom, firstOffender, coordinates, sameEnds, unlessOffender, acceptOf}
 
 -- a coordinate that is accepted: an f32 of at most 65,536 in size
 pub record Coordinate (x : Float) : Type 0 where
@@ -144,54 +135,7 @@ not-short w h p q k = go (sidesTooLarge w h) (firstOffender (coordinates p q)) (
     go false None true e z = other 2 (λ y. omega arith) e z
     go false None false e z = not-refused k (sym e)
 
--- ---- its two axes
+-- ---- the difference between two such coordinates
 
 pub difference-size : {x y : Float} → Coordinate x → Coordinate y → Size 131072 (y ⊖ x)
 difference-size {x} {y} a b = sub-size 65536 65536 y x (b .size) (a .size) (lit≤ tt)
-
-difference-nonzero : {x y : Float} → Coordinate x → Coordinate y → eq x y ≡ false → NonZero (y ⊖ x)
-difference-nonzero {x} {y} a b h = apart x y 65536 65536 (a .fit) (b .fit) (a .size) (b .size) h
-
-epsilon-size : Size 1 epsilon
-unfolding ofBits
-epsilon-size = lit≤ tt
-
-axis-sized : (step p q : Float) → Size 65536 p → Size 65536 q → Size 1 ((q ⊖ p) ⊘ step) → Sized (axisOf step p q)
-unfolding axisOf minOf maxOf
-axis-sized step p q h k l = record {
-  start-size = h;
-  slope-size = l;
-  low-size = sub-size 65536 1 (minOf p q) epsilon (cond-both (Size 65536) (isNan p || lt q p) p q h k) epsilon-size (lit≤ tt);
-  high-size = add-size 65536 1 (maxOf p q) epsilon (cond-both (Size 65536) (isNan p || lt p q) p q h k) epsilon-size (lit≤ tt);
-}
-
-module _ {p q : Vec2} (w : Accepted p q) where
-  slopes-of : Slopes ((q .x ⊖ p .x) ⊘ stepOf p q) ((q .y ⊖ p .y) ⊘ stepOf p q)
-  unfolding stepOf
-  slopes-of = slopes (q .x ⊖ p .x) (q .y ⊖ p .y) 131072 131072 (difference-size (w .x0) (w .x1)) (difference-size (w .y0) (w .y1)) nonzero
-    where
-      nonzero : NonZero (q .x ⊖ p .x) ⊎ NonZero (q .y ⊖ p .y)
-      nonzero = elim (w .differ) [ inl h ↦ inl (difference-nonzero (w .x0) (w .x1) h) | inr h ↦ inr (difference-nonzero (w .y0) (w .y1) h) ]
-
-  -- neither difference is more than 131,072 in size, and so nor is the larger one
-  pub step-size : Size 131072 (stepOf p q)
-  unfolding stepOf maxOf
-  step-size =
-      let x = absOf (q .x ⊖ p .x) in
-      let y = absOf (q .y ⊖ p .y) in
-      cond-both (Size 131072) (isNan x || lt x y) x y
-      (abs-size 131072 (q .x ⊖ p .x) (difference-size (w .x0) (w .x1)))
-      (abs-size 131072 (q .y ⊖ p .y) (difference-size (w .y0) (w .y1)))
-
-  pub sized-x : Sized (alongX p q)
-  sized-x = axis-sized (stepOf p q) (p .x) (q .x) (w .x0 .size) (w .x1 .size) (slopes-of .first-size)
-
-  pub sized-y : Sized (alongY p q)
-  sized-y = axis-sized (stepOf p q) (p .y) (q .y) (w .y0 .size) (w .y1 .size) (slopes-of .second-size)
-
-  pub major : Major (alongX p q) ⊎ Major (alongY p q)
-  unfolding axisOf
-  major = slopes-of .major
-
-  pub stroke-stops : Stops (alongX p q) (alongY p q)
-  stroke-stops = stops (alongX p q) (alongY p q) (outside sized-x sized-y major)

@@ -1,9 +1,9 @@
--- `stroke::number_of` meets its contract: the test is the definition's. Assumes nothing.
+-- `stroke_check::number_of` meets its contract: the test is the definition's. Assumes nothing.
 use mathlib.Core.Path.{sym, _∙_}
 use borrow.Author.Needs.{needs}
-use Rattle.stroke.specs.Check.{numberOf}
-use Rattle.stroke.proofs.check.number_of.Statement.{statement}
-use Rattle.stroke.proofs.check.number_of.Tie as tie
+use Rattle.stroke_check.specs.Check.{numberOf}
+use Rattle.stroke_check.proofs.number_of.Statement.{statement}
+use Rattle.stroke_check.proofs.number_of.Tie as tie
 
 returns : tie.Need-returns
 unfolding numberOf

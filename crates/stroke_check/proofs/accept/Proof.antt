@@ -1,11 +1,11 @@
--- `stroke::accept` meets its contract: each outcome by the tests that led there. Assumes nothing.
+-- `stroke_check::accept` meets its contract: each outcome by the tests that led there. Assumes nothing.
 use mathlib.Core.Path.{_≡_, sym, _∙_}
 use mathlib.Core.Bool.{false}
 use borrow.Author.Needs.{needs}
-use Rattle.stroke.specs.declared.check.Offender.the-variants.{None}
-use Rattle.stroke.specs.Check.{sidesTooLarge, firstOffender, coordinates, unlessOffender, acceptOf}
-use Rattle.stroke.proofs.check.accept.Statement.{statement}
-use Rattle.stroke.proofs.check.accept.Tie as tie
+use Rattle.stroke_check.specs.declared.Offender.the-variants.{None}
+use Rattle.stroke_check.specs.Check.{sidesTooLarge, firstOffender, coordinates, unlessOffender, acceptOf}
+use Rattle.stroke_check.proofs.accept.Statement.{statement}
+use Rattle.stroke_check.proofs.accept.Tie as tie
 
 -- what is known past the first test, and past the second
 sides : (c : tie.Else1) → let s = c .before .before .args in sidesTooLarge (s .width) (s .height) ≡ false

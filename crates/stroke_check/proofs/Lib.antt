@@ -1,0 +1,2 @@
+pub mod Offenders
+pub mod Accepted
