@@ -1,6 +1,6 @@
 -- What the tests say of a stroke's ends where none of them refuses it. Assumes nothing.
 use mathlib.Core.Path.{_≡_, refl, sym, _∙_, subst}
-use mathlib.Core.Bool.{Bool, true, false, _&&_, _||_, cond, true≢false}
+use mathlib.Core.Bool.{Bool, true, false, _&&_, cond, true≢false}
 use mathlib.Core.Logic.{_⊎_, inl, inr}
 use mathlib.Core.List.{List, [], _∷_}
 use Prim.Native.Nat.{ℕ, suc, _*_, _≤_}
@@ -9,7 +9,7 @@ use native.Mathlib.Omega.{arith}
 use borrow.Author.Tests.{ltb-false}
 use lib.IntN.{pos}
 use lib.Dec.{T, ltb, lit≤}
-use lib.Ieee.{Float, nan, inf, fin, binary32, up, lt, le, eq, isNan, fits, ofBits}
+use lib.Ieee.{Float, nan, inf, fin, binary32, up, lt, le, eq, fits, ofBits}
 use Rattle.types.specs.declared.shape.Vec2.{Vec2}
 use Rattle.float.specs.Rounded.{_⊖_}
 use Rattle.float.specs.Values.{absOf}
