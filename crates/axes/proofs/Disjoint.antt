@@ -1,8 +1,8 @@
 -- Two ranges lie apart exactly if the intervals that specs/Disjoint.antt speaks of are disjoint; so an axis separates two boxes exactly if their
 -- projections on it are. Assumes nothing.
 use mathlib.Core.Path.{_≡_, refl, sym, ap, _∙_}
-use mathlib.Core.Logic.{_⊎_, inl, inr, _↔_}
-use mathlib.Core.Bool.{Bool, true, false, not, _||_, true≢false}
+use mathlib.Core.Logic.{inl, inr, _↔_}
+use mathlib.Core.Bool.{Bool, true, false, not, true≢false}
 use mathlib.Core.List.{List, [], _∷_, List·Memᴰ, List·Memᴰ·head, List·Memᴰ·tail, List·Memᴰ·cases-cons, List·Memᴰ·not-nil}
 use lib.Ieee.{Float, lt, isNan}
 use borrow.Author.Tests.{not-false}
@@ -10,7 +10,7 @@ use Rattle.axes.specs.Axes.{rangeOf, apartOf, some, projections, separat
 use Rattle.axes.specs.Disjoint.{+∞, -∞, NumberOf, NumberOfOr, Below, NumbersDecide, SeparatesIfDisjoint, SeparatingAxis}
 use Rattle.axes.proofs.Ends.{range-ends}
 use Rattle.float.proofs.Order.{lt-itself, lt-not, none-lower, none-higher}
-use Rattle.float.proofs.Tests.{either}
+use Rattle.float.proofs.Tests.{either, or-true}
 
 -- ---- disjoint intervals
 
@@ -46,11 +46,6 @@ numbers-decide xs ys a b m n = (λ h x y p q. h x y (inr p) (inr q), decided)
     decided h x y (inr p) (inr q) = h x y p q
 
 -- ---- boxes
-
-or-true : (a b : Bool) → (a ≡ true) ⊎ (b ≡ true) → (a || b) ≡ true
-or-true true b h = refl
-or-true false b (inl e) = absurd (true≢false (sym e))
-or-true false b (inr e) = e
 
 module _ {A : Type 0} (f : A → Bool) where
   pub some-is : (xs : List A) → some f xs ≡ true → (x : A) × List·Memᴰ x xs × (f x ≡ true)

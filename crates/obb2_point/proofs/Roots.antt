@@ -6,10 +6,11 @@ use native.Mathlib.Nat.{zero-mul, mul-pos, zero-lt-suc}
 use native.Mathlib.Omega.{arith}
 use lib.IntN.{ℤ}
 use lib.Dec.{T}
-use lib.Ieee.{Float, nan, inf, fin, binary32, up, down, fits, le, lt, eq, isNan, odd}
+use lib.Ieee.{Float, nan, inf, fin, binary32, up, down, fits, le, lt, eq, isNan}
 use lib.Ieee.Fits.{up-pos}
 use borrow.Author.Tests.{lt-ltb, ne-eqb}
 use Rattle.float.proofs.Sign.{+0}
+use Rattle.float.proofs.Tests.{odd-number}
 use Rattle.root.specs.Root.{sqrtOf, nearestRoot, rounded, dropped}
 use Rattle.root.specs.Radicand.{radicand}
 use Rattle.root.proofs.Special.{sqrt-of-negative}
@@ -34,11 +35,6 @@ unfolding le lt eq
 zero-le-plus m e = rw (lt-ltb (0 * down e) (suc m * up e * 1) (omega (arith, zero-mul (down e), some-size m e)))
 
 -- ---- roots
-
-odd-number : (d : ℕ) (s : Bool) (q k l : ℕ) → isNan (odd d s q k l) ≡ false
-unfolding isNan odd
-odd-number d s zero k l = refl
-odd-number d s (suc q) k l = refl
 
 pub no-root : (x : Float) → not (le +0 x) ≡ isNan (sqrtOf x)
 unfolding le lt eq isNan sqrtOf nearestRoot

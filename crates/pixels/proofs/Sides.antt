@@ -39,13 +39,13 @@ module _ {p q : Vec2} (v : Accepted p q) (w h : ℕ) (wide : w ≤ 16384) (high 
   entered-few k t = elim (major v) [
     | inl m ↦
         let l =
-        count-le (sized-x v) (unfold axisOf in (v .x0 .fit)) m w (ofInt binary32 (pos w)) (of-int w (omega arith))
+        count-le (sized-x v) (unfold axisOf in (v .ends .x0 .fit)) m w (ofInt binary32 (pos w)) (of-int w (omega arith))
         (λ (i : ℕ). length (entered w h A B i)) (λ (i : ℕ). onImage w h (position A B i)) (ap length (entered-none w h A B)) (entered-more w h A B)
         (λ i e. on-sides i e .0) k t in
         omega arith
     | inr m ↦
         let l =
-        count-le (sized-y v) (unfold axisOf in (v .y0 .fit)) m h (ofInt binary32 (pos h)) (of-int h (omega arith))
+        count-le (sized-y v) (unfold axisOf in (v .ends .y0 .fit)) m h (ofInt binary32 (pos h)) (of-int h (omega arith))
         (λ (i : ℕ). length (entered w h A B i)) (λ (i : ℕ). onImage w h (position A B i)) (ap length (entered-none w h A B)) (entered-more w h A B)
         (λ i e. on-sides i e .1) k t in
         omega arith

@@ -1,7 +1,7 @@
 -- Which floats are numbers and not a NaN: those of a size, and rounded results. Assumes nothing.
 use mathlib.Core.Path.{_≡_, refl, ap, _∙_}
 use mathlib.Core.Bool.{Bool, true, false, not, _&&_, cond, Bool·beq}
-use Prim.Native.Nat.{ℕ, zero, suc, _+_, _-_, _*_, _^_, _<_}
+use Prim.Native.Nat.{ℕ, suc, _+_, _-_, _*_, _^_, _<_}
 use native.Mathlib.Omega.{arith}
 use borrow.Author.Tests.{ne-eqb}
 use lib.IntN.{ℤ}
@@ -9,6 +9,7 @@ use lib.Dec.{ltb, eqb}
 use lib.Ieee.{Float, nan, inf, fin, Format, binary32, prec, low, emax, unlike, up, down, odd, units, round, neg, sum, add, sub, div, isNan}
 use lib.Ieee.Fits.{round-is}
 use Rattle.float.specs.Rounded.{_⊖_, _⊘_}
+use Rattle.float.proofs.Tests.{odd-number}
 use Rattle.rounded.specs.Size.{Size}
 
 pub sized-number : (k : ℕ) (x : Float) → Size k x → isNan x ≡ false
@@ -16,11 +17,6 @@ unfolding isNan
 sized-number k nan h = absurd h
 sized-number k (inf s) h = absurd h
 sized-number k (fin s m e) h = refl
-
-odd-number : (d : ℕ) (s : Bool) (q k l : ℕ) → isNan (odd d s q k l) ≡ false
-unfolding odd isNan
-odd-number d s zero k l = refl
-odd-number d s (suc q) k l = refl
 
 units-number : (f : Format) (s : Bool) (q k : ℕ) → isNan (units f s q k) ≡ false
 unfolding units

@@ -37,10 +37,10 @@ axis-sized step p q h k l = record {
 module _ {p q : Vec2} (w : Accepted p q) where
   slopes-of : Slopes ((q .x ⊖ p .x) ⊘ stepOf p q) ((q .y ⊖ p .y) ⊘ stepOf p q)
   unfolding stepOf
-  slopes-of = slopes (q .x ⊖ p .x) (q .y ⊖ p .y) 131072 131072 (difference-size (w .x0) (w .x1)) (difference-size (w .y0) (w .y1)) nonzero
+  slopes-of = slopes (q .x ⊖ p .x) (q .y ⊖ p .y) 131072 131072 (difference-size (w .ends .x0) (w .ends .x1)) (difference-size (w .ends .y0) (w .ends .y1)) nonzero
     where
       nonzero : NonZero (q .x ⊖ p .x) ⊎ NonZero (q .y ⊖ p .y)
-      nonzero = elim (w .differ) [ inl h ↦ inl (difference-nonzero (w .x0) (w .x1) h) | inr h ↦ inr (difference-nonzero (w .y0) (w .y1) h) ]
+      nonzero = elim (w .differ) [ inl h ↦ inl (difference-nonzero (w .ends .x0) (w .ends .x1) h) | inr h ↦ inr (difference-nonzero (w .ends .y0) (w .ends .y1) h) ]
 
   -- neither difference is more than 131,072 in size, and so nor is the larger one
   pub step-size : Size 131072 (stepOf p q)
@@ -49,14 +49,14 @@ module _ {p q : Vec2} (w : Accepted p q) where
       let x = absOf (q .x ⊖ p .x) in
       let y = absOf (q .y ⊖ p .y) in
       cond-both (Size 131072) (isNan x || lt x y) x y
-      (abs-size 131072 (q .x ⊖ p .x) (difference-size (w .x0) (w .x1)))
-      (abs-size 131072 (q .y ⊖ p .y) (difference-size (w .y0) (w .y1)))
+      (abs-size 131072 (q .x ⊖ p .x) (difference-size (w .ends .x0) (w .ends .x1)))
+      (abs-size 131072 (q .y ⊖ p .y) (difference-size (w .ends .y0) (w .ends .y1)))
 
   pub sized-x : Sized (alongX p q)
-  sized-x = axis-sized (stepOf p q) (p .x) (q .x) (w .x0 .size) (w .x1 .size) (slopes-of .first-size)
+  sized-x = axis-sized (stepOf p q) (p .x) (q .x) (w .ends .x0 .size) (w .ends .x1 .size) (slopes-of .first-size)
 
   pub sized-y : Sized (alongY p q)
-  sized-y = axis-sized (stepOf p q) (p .y) (q .y) (w .y0 .size) (w .y1 .size) (slopes-of .second-size)
+  sized-y = axis-sized (stepOf p q) (p .y) (q .y) (w .ends .y0 .size) (w .ends .y1 .size) (slopes-of .second-size)
 
   pub major : Major (alongX p q) ⊎ Major (alongY p q)
   unfolding axisOf

@@ -96,8 +96,8 @@ module _ {p q : Vec2} (w : Accepted p q) (D : ℕ) (fx : Far D (p .x) (q .x)) (f
   goes-few k h l t =
       let b = both (within (alongX p q) (at (alongX p q) k)) (within (alongY p q) (at (alongY p q) k)) t in
       elim (major w) [
-        | inl m ↦ few-within (stepOf p q) (p .x) (q .x) D (w .x0 .size) (w .x1 .size) fx l (sized-x w) m k h (b .0)
-        | inr m ↦ few-within (stepOf p q) (p .y) (q .y) D (w .y0 .size) (w .y1 .size) fy l (sized-y w) m k h (b .1)
+        | inl m ↦ few-within (stepOf p q) (p .x) (q .x) D (w .ends .x0 .size) (w .ends .x1 .size) fx l (sized-x w) m k h (b .0)
+        | inr m ↦ few-within (stepOf p q) (p .y) (q .y) D (w .ends .y0 .size) (w .ends .y1 .size) fy l (sized-y w) m k h (b .1)
       ]
 
   exit-few : exit (alongX p q) (alongY p q) ≤ D + 2
@@ -121,11 +121,11 @@ module _ {p q : Vec2} (w : Accepted p q) where
 
   far-x : Far (largerDifferenceOf p q) (p .x) (q .x)
   unfolding largerDifferenceOf
-  far-x = far-ends (largerDifferenceOf p q) (w .x0) (w .x1) larger (omega arith) (up-to-over (2 ^ 149) larger (pow-pos 149))
+  far-x = far-ends (largerDifferenceOf p q) (w .ends .x0) (w .ends .x1) larger (omega arith) (up-to-over (2 ^ 149) larger (pow-pos 149))
 
   far-y : Far (largerDifferenceOf p q) (p .y) (q .y)
   unfolding largerDifferenceOf
-  far-y = far-ends (largerDifferenceOf p q) (w .y0) (w .y1) larger (omega arith) (up-to-over (2 ^ 149) larger (pow-pos 149))
+  far-y = far-ends (largerDifferenceOf p q) (w .ends .y0) (w .ends .y1) larger (omega arith) (up-to-over (2 ^ 149) larger (pow-pos 149))
 
   pub exit-bound : exit (alongX p q) (alongY p q) ≤ largerDifferenceOf p q + 2
   exit-bound = exit-few w (largerDifferenceOf p q) far-x far-y

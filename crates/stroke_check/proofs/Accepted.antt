@@ -36,10 +36,7 @@ pub record Bounded (p q : Vec2) : Type 0 where
 
 -- and differ
 pub record Accepted (p q : Vec2) : Type 0 where
-  pub x0 : Coordinate (p .x)
-  pub y0 : Coordinate (p .y)
-  pub x1 : Coordinate (q .x)
-  pub y1 : Coordinate (q .y)
+  pub ends : Bounded p q
   pub differ : (eq (p .x) (q .x) ≡ false) ⊎ (eq (p .y) (q .y) ≡ false)
 
 -- all four coordinates are f32
@@ -87,13 +84,7 @@ bounded {p} {q} f t =
 
 accepted : {p q : Vec2} → Bounded p q → sameEnds p q ≡ false → Accepted p q
 unfolding sameEnds
-accepted {p} {q} w d = record {
-  x0 = w .x0;
-  y0 = w .y0;
-  x1 = w .x1;
-  y1 = w .y1;
-  differ = either (eq (p .x) (q .x)) (eq (p .y) (q .y)) d;
-}
+accepted {p} {q} w d = record { ends = w; differ = either (eq (p .x) (q .x)) (eq (p .y) (q .y)) d }
 
 -- a stroke that is walked, over an image w by h
 pub record Passed (w h : ℕ) (p q : Vec2) : Type 0 where

@@ -12,7 +12,7 @@ use Rattle.types.specs.declared.answer.Interval.{Interval}
 use Rattle.types.specs.declared.answer.Interval.the-variants.{Miss, Hit}
 use Rattle.float.specs.Rounded.{_⊖_, +0, one}
 use Rattle.float.proofs.Order.{lt-not, lt-one-way}
-use Rattle.float.proofs.Tests.{either}
+use Rattle.float.proofs.Tests.{either, or-true}
 use Rattle.edge2_measure.specs.Measure.{lengthOf}
 use Rattle.slab.specs.declared.Slab.{Slab}
 use Rattle.slab.specs.Clip.{largest, lowest, allFiniteOf, narrowedOf, narrowAll, orderedOf, clipOver}
@@ -93,12 +93,8 @@ module _ (low high p q : Float) (P : Coordinate p) (Q : Coordinate q) where
             let a = both (lt high p) (lt high q) e in
             let hp = lt-one-way high p (a .0) in
             let hq = lt-one-way high q (a .1) in
-            made true (lt-not p high low (n .1) hp back) (lt-not q high low (n .1) hq back) hp hq (or-true (lt p low) (lt high p) (a .0))
+            made true (lt-not p high low (n .1) hp back) (lt-not q high low (n .1) hq back) hp hq (or-true (lt p low) (lt high p) (inr (a .0)))
       ]
-    where
-      or-true : (a b : Bool) → b ≡ true → (a || b) ≡ true
-      or-true true b h = refl
-      or-true false b h = h
 
 -- ---- equal ends
 

@@ -17,7 +17,7 @@ passed-at c = passed (floats-at c) (c .pre)
 
 larger-difference-requires : tie.Need-larger-difference-requires
 larger-difference-requires c κs =
-    let s = passed-at c .stroke in
+    let s = passed-at c .stroke .ends in
     ((s .x0 .size, s .y0 .size), (s .x1 .size, s .y1 .size))
 
 mul-by-ends : tie.Need-mul-by-ends
