@@ -16,6 +16,7 @@ import sys
 ROOT = pathlib.Path(__file__).resolve().parent.parent.parent
 SCALARS = ("bool", "u8", "u32", "i32", "usize", "f32")
 COMMENT = r"((?:^ *//[^\n]*\n)*)"
+ATTRIBUTES = r"(?:#\[[^\n]*\]\n)*"
 
 
 @dataclasses.dataclass(frozen=True)
@@ -166,16 +167,16 @@ def named(text):
 
 
 def functions_of(source):
-    pattern = COMMENT + r'#\[no_mangle\]\npub extern "C" fn (\w+)\(([^)]*)\) -> (\w+)\n(.*?)^\{(.*?)^\}'
+    pattern = COMMENT + r'#\[unsafe\(no_mangle\)\]\n' + ATTRIBUTES + r'pub extern "C" fn (\w+)\(([^)]*)\) -> (\w+)\n(.*?)^\{(.*?)^\}'
     for comment, symbol, parameters, result, contract, body in re.findall(pattern, source, re.S | re.M):
-        enum = re.search(r"r ≡ of([A-Z]\w*)", contract)
+        enum = re.search(r"result ≡ of_([a-z]\w*)", contract)
         # The innermost call: what is around it only turns an answer into a struct.
         routine = re.findall(r"\w+::\w+(?=\()", body)[-1]
-        yield Function(symbol, comment_of(comment), named(parameters), result, enum[1] if enum else "", routine)
+        yield Function(symbol, comment_of(comment), named(parameters), result, enum[1].capitalize() if enum else "", routine)
 
 
 def structs_of(source):
-    for comment, name, fields in re.findall(COMMENT + r"#\[repr\(C\)\]\npub struct (\w+) \{\n(.*?)^\}", source, re.S | re.M):
+    for comment, name, fields in re.findall(COMMENT + r"#\[repr\(C\)\]\n" + ATTRIBUTES + r"pub struct (\w+) \{\n(.*?)^\}", source, re.S | re.M):
         yield Struct(name, comment_of(comment), named(fields))
 
 
@@ -192,7 +193,7 @@ def refusals_of(source):
 
 def sources():
     """The text of each crate that crates.txt lists, its files joined."""
-    for crate in re.findall(r"^(\w+):", (ROOT / "crates.txt").read_text(), re.M):
+    for crate in re.findall(r"^(\w+)(?: staticlib)?:", (ROOT / "crates.txt").read_text(), re.M):
         folder = ROOT / "crates" / crate / "src"
         # The root first: it has the comment on the crate.
         paths = sorted(folder.glob("**/*.rt"), key=lambda p: (p.parent != folder or p.stem not in ("lib", "main"), p))

@@ -3,8 +3,8 @@ use Rattle.std.specs.Prelude.{List, [], ◌∷◌}
 use Rattle.types.specs.declared.shape.Vec2.{Vec2}
 use Rattle.types.specs.declared.shape.Aabb2.{Aabb2}
 use Rattle.types.specs.declared.answer.Interval.{Interval}
-use Rattle.slab.specs.declared.Slab.{Slab}
-unfoldable pub use Rattle.slab.specs.Clip.{narrowed_of, narrow_all, ordered_of, clip_over, ahead_of}
+use Rattle.slabs.specs.declared.Slab.{Slab}
+unfoldable pub use Rattle.slabs.specs.Clip.{narrowed_of, narrow_all, ordered_of, clip_over, ahead_of}
 
 -- the box and the line, seen in one dimension
 abbrev pub slab_x_of : Aabb2 → Vec2 → Vec2 → Slab

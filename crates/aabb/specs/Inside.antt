@@ -2,7 +2,7 @@
 use Rattle.std.specs.Prelude.{Bool, ◌&&◌}
 use Rattle.types.specs.declared.shape.Vec2.{Vec2}
 use Rattle.types.specs.declared.shape.Aabb2.{Aabb2}
-use Rattle.slab.specs.Inside.{within_of, middle}
+use Rattle.slabs.specs.Inside.{within_of, middle}
 
 -- in both dimensions
 unfoldable pub is_include_point_of : Aabb2 → Vec2 → Bool

@@ -1,4 +1,6 @@
 // Upright boxes of the plane: each routine under its name, whichever crate has it.
+#![tactic(auto)]
+
 pub use aabb2_change::{
     center, max_edge_size, scale, to_transformation_world2unit_ortho_preserve_asp,
     transform_homogeneous, translate,

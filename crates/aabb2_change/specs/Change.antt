@@ -13,7 +13,7 @@ use Rattle.float.specs.Rounded.{◌⊕◌, ◌⊖◌, ◌⊗◌, ◌⊘◌, +0, 
 use Rattle.float.specs.Values.{max_of}
 use Rattle.mat3.specs.Values as mat3
 use Rattle.aabb2_from.specs.From.{from_two_aabbs_of}
-use Rattle.slab.specs.Inside.{middle}
+use Rattle.slabs.specs.Inside.{middle}
 use Rattle.aabb.specs.Inside.{center_of}
 
 abbrev pub max_edge_size_of : Aabb2 → Float

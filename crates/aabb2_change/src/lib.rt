@@ -1,4 +1,6 @@
 // A box's size and centre, and boxes moved, scaled and transformed.
+#![tactic(auto, unfolding(crate::specs::Change::with_image_of, crate::specs::Change::transform_homogeneous_of, crate::specs::Change::with_images))]
+
 ghost use Rattle.std.specs.Prelude.{◌≡◌};
 ghost use Rattle.mat3.specs.Values as mat3;
 ghost use Rattle.aabb.specs.Inside.{center_of};

@@ -8,7 +8,7 @@ use Rattle.types.specs.declared.answer.Nearest.TheVariants.{Some, Refused}
 use Rattle.float.specs.Rounded.{◌⊕◌, ◌⊖◌, ◌⊗◌, +0, half}
 use Rattle.float.specs.Values.{abs_of, min_of, max_of, clamp_of}
 use Rattle.vec2.specs.Values.{length_of}
-use Rattle.slab.specs.Inside.{middle}
+use Rattle.slabs.specs.Inside.{middle}
 
 -- how far a coordinate lies past the nearer end of low to high; negative inside
 abbrev pub past_of : Float → Float → Float → Float

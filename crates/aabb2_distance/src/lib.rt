@@ -1,4 +1,6 @@
 // Points against a box: inside, nearest, and how far.
+#![tactic(auto, unfolding(crate::specs::Distance::nearest_point2_of))]
+
 ghost use Rattle.std.specs.Prelude.{◌≡◌};
 ghost use Rattle.aabb.specs.Inside.{is_include_point_of};
 ghost use Rattle.aabb2_distance.specs.Distance.{past_of, is_intersect_square_of, nearest_point2_of, sdf_of};

@@ -1,4 +1,6 @@
 // Boxes made from points and from other boxes.
+#![tactic(auto, unfolding(crate::specs::From::from_point_of, crate::specs::From::add_point_of))]
+
 ghost use Rattle.std.specs.Prelude.{◌≡◌};
 ghost use Rattle.aabb2_from.specs.From.{from_point_of, from_two_points_of, from_two_aabbs_of, add_point_of, around_of};
 

@@ -1,4 +1,6 @@
 // A running box, lent and widened where it stands: thin over `aabb2_from::add_point`, which takes and returns it by value.
+#![tactic(auto)]
+
 ghost use Rattle.std.specs.Prelude.{◌≡◌};
 ghost use Rattle.aabb2_from.specs.From.{add_point_of};
 ghost use Rattle.aabb2_lent.specs.Lent.{settled_of, answered_of};

@@ -1,4 +1,6 @@
 // The pixels whose centres lie in a box.
+#![tactic(auto, unfolding(crate::specs::Raster::rasterize_of))]
+
 ghost use Rattle.std.specs.Prelude.{◌≡◌, ◌≤◌};
 ghost use Rattle.aabb2_raster.specs.Raster.{first_pixel_of, end_pixel_of, rasterize_of};
 

@@ -1,10 +1,12 @@
 // Upright boxes in a flat list of floats, four to a box in the order of `Aabb2`'s fields: a view of a lent list.
+#![tactic(auto, unfolding(crate::specs::Flat::from_aabbs_of))]
+
 ghost use Rattle.std.specs.Prelude.{◌≡◌, ◌+◌, ◌≤◌, length};
 ghost use Rattle.aabb2_view.specs.Flat.{count_of, box_from_of, from_aabbs_of};
 
 use types::{Aabb2, Boxed};
 
-#[derive(Drop)]
+#[derive(Clone, Copy)]
 pub struct Boxes<'a> {
     pub all: &'a [f32],
 }
@@ -23,8 +25,7 @@ pub fn box_at<'a>(boxes: Boxes<'a>, index: usize) -> Boxed
     box_of(boxes.all, index)
 }
 
-// The same two for callers that have the list alone: a function that holds a view is proved by hand, and one that calls
-// these is not.
+// The same two for callers that have the list alone.
 pub fn count_aabbs(all: &[f32]) -> usize
     ensures { result ≡ count_of all.now }
 {

@@ -1,4 +1,6 @@
 // Upright boxes of space: each routine under its name, whichever crate has it.
+#![tactic(auto)]
+
 pub use aabb3_distance::{
     is_possible_distance_to_aabb2_smaller_than_threshold, min_sq_dist_to_point3,
 };

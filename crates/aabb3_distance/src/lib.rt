@@ -1,4 +1,6 @@
 // How far a box of space is from a point, and whether it may be near another box.
+#![tactic(auto)]
+
 ghost use Rattle.std.specs.Prelude.{◌≡◌};
 ghost use Rattle.aabb3_distance.specs.Distance.{square_of, min_sq_dist_to_point3_of, near_of, unless_yes_of, is_possible_distance_of};
 
@@ -22,6 +24,7 @@ pub fn min_sq_dist_to_point3(b: Aabb3, p: Vec3) -> f32
 }
 
 // Whether the gap between two ranges is no more than threshold. A range that is not ordered is refused.
+#[tactic(auto, unfolding(crate::specs::Distance::gap_answer))]
 fn near(a: Range, b: Range, threshold: f32) -> Verdict
     ensures { result ≡ near_of a b threshold }
 {
@@ -33,6 +36,7 @@ fn near(a: Range, b: Range, threshold: f32) -> Verdict
 }
 
 // The first answer where it is a no or a refusal, and else the second.
+#[tactic(auto, unfolding(crate::specs::Distance::unless_yes_of))]
 fn unless_yes(first: Verdict, second: Verdict) -> Verdict
     ensures { result ≡ unless_yes_of first second }
 {

@@ -1,4 +1,6 @@
 // Boxes of space made from points and from other boxes.
+#![tactic(auto)]
+
 ghost use Rattle.std.specs.Prelude.{◌≡◌};
 ghost use Rattle.aabb3_from.specs.From.{from_two_aabbs_of, set_as_cube_of, add_point_of};
 

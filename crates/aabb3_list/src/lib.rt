@@ -1,4 +1,6 @@
 // Upright boxes of space in a flat list of floats, six to a box in the order of `Aabb3`'s fields.
+#![tactic(auto)]
+
 ghost use Rattle.std.specs.Prelude.{◌≡◌, ◌+◌, ◌≤◌, length};
 ghost use Rattle.aabb3_list.specs.Flat.{count_of, box_from_of, from_aabbs_of};
 
@@ -27,6 +29,7 @@ fn box_from(all: &[f32], at: usize) -> Aabb3
 }
 
 // The box at an index. An index that is not below the count is refused.
+#[tactic(auto, unfolding(crate::specs::Flat::from_aabbs_of))]
 pub fn from_aabbs(all: &[f32], index: usize) -> Boxed3
     ensures { result ≡ from_aabbs_of all.now index }
 {

@@ -1,4 +1,6 @@
 // A box of space: its centre, edges and corners, and the box scaled about its centre.
+#![tactic(auto, unfolding(crate::specs::Measure::xyz_from_hex_index_of, crate::specs::Measure::corner_at))]
+
 ghost use Rattle.std.specs.Prelude.{◌≡◌};
 ghost use Rattle.vec3.specs.Values.{vec3};
 ghost use Rattle.aabb_3.specs.Inside.{center_of};

@@ -1,4 +1,6 @@
 // Whether a box has a point, and whether two boxes touch.
+#![tactic(auto)]
+
 ghost use Rattle.std.specs.Prelude.{◌≡◌};
 ghost use Rattle.aabb3_touch.specs.Touch.{is_active_of, is_contain_of, apart_of, is_intersect_of};
 

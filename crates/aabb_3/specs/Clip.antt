@@ -3,8 +3,8 @@ use Rattle.std.specs.Prelude.{List, [], ◌∷◌}
 use Rattle.types.specs.declared.shape.Vec3.{Vec3}
 use Rattle.types.specs.declared.shape.Aabb3.{Aabb3}
 use Rattle.types.specs.declared.answer.Interval.{Interval}
-use Rattle.slab.specs.declared.Slab.{Slab}
-use Rattle.slab.specs.Clip.{clip_over, ahead_of}
+use Rattle.slabs.specs.declared.Slab.{Slab}
+use Rattle.slabs.specs.Clip.{clip_over, ahead_of}
 
 -- the box and the line, seen in one dimension
 abbrev pub slab_x_of : Aabb3 → Vec3 → Vec3 → Slab

@@ -2,7 +2,7 @@
 use Rattle.std.specs.Prelude.{Bool, ◌&&◌}
 use Rattle.types.specs.declared.shape.Vec3.{Vec3}
 use Rattle.types.specs.declared.shape.Aabb3.{Aabb3}
-use Rattle.slab.specs.Inside.{within_of, middle}
+use Rattle.slabs.specs.Inside.{within_of, middle}
 
 -- in each of the three dimensions
 unfoldable pub is_include_point_of : Aabb3 → Vec3 → Bool

@@ -1,9 +1,11 @@
 // Upright boxes of space: the plane's routines of crate aabb at three dimensions, over the same slabs.
+#![tactic(auto, unfolding(crate::specs::Clip::intersections_against_line_of, crate::specs::Clip::intersections_against_ray_of, crate::specs::Inside::is_include_point_of, slabs::specs::Clip::clip_over, slabs::specs::Clip::narrow_all))]
+
 ghost use Rattle.std.specs.Prelude.{◌≡◌};
 ghost use Rattle.aabb_3.specs.Clip.{slab_x_of, slab_y_of, slab_z_of, intersections_against_line_of, intersections_against_ray_of};
 ghost use Rattle.aabb_3.specs.Inside.{is_include_point_of, center_of};
 
-use slab::Slab;
+use slabs::Slab;
 use types::{Aabb3, Interval, Vec3};
 
 // The box and the line, seen in one dimension.
@@ -44,25 +46,25 @@ fn slab_z(b: Aabb3, origin: Vec3, direction: Vec3) -> Slab
 pub fn intersections_against_line(b: Aabb3, origin: Vec3, direction: Vec3) -> Interval
     ensures { result ≡ intersections_against_line_of b origin direction }
 {
-    let x = slab::narrowed(slab_x(b, origin, direction), slab::all_finite());
-    let y = slab::narrowed(slab_y(b, origin, direction), x);
-    slab::ordered(slab::narrowed(slab_z(b, origin, direction), y))
+    let x = slabs::narrowed(slab_x(b, origin, direction), slabs::all_finite());
+    let y = slabs::narrowed(slab_y(b, origin, direction), x);
+    slabs::ordered(slabs::narrowed(slab_z(b, origin, direction), y))
 }
 
 // The line's answer where it leaves the box at 0 or later. The entry is not raised to 0.
 pub fn intersections_against_ray(b: Aabb3, origin: Vec3, direction: Vec3) -> Interval
     ensures { result ≡ intersections_against_ray_of b origin direction }
 {
-    slab::ahead(intersections_against_line(b, origin, direction))
+    slabs::ahead(intersections_against_line(b, origin, direction))
 }
 
 // Whether p is in the box, faces included. A NaN is outside.
 pub fn is_include_point(b: Aabb3, p: Vec3) -> bool
     ensures { result ≡ is_include_point_of b p }
 {
-    slab::within(b.min_x, b.max_x, p.x)
-        & slab::within(b.min_y, b.max_y, p.y)
-        & slab::within(b.min_z, b.max_z, p.z)
+    slabs::within(b.min_x, b.max_x, p.x)
+        & slabs::within(b.min_y, b.max_y, p.y)
+        & slabs::within(b.min_z, b.max_z, p.z)
 }
 
 pub fn center(b: Aabb3) -> Vec3

@@ -1,4 +1,4 @@
--- The answer by its two tests, and the list afterwards. Assumes nothing.
+-- The answer by its two tests, and the list afterwards.
 use mathlib.Core.Path.{◌≡◌, sym, ap, ◌∙◌}
 use mathlib.Core.List.{List, ◌++◌}
 use Prim.Native.Nat.{ℕ, ◌*◌, ◌/◌, ◌%◌, ◌<◌, ◌≤◌}

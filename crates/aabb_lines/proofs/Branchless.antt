@@ -1,5 +1,4 @@
 -- The clip that works out every value and then chooses is the clip, for every float: a direction of zero becomes a NaN, which drops out.
--- Assumes nothing.
 use mathlib.Core.Path.{◌≡◌, refl, sym, ap, ◌∙◌}
 use mathlib.Core.Bool.{Bool, true, false, not, cond, ◌&&◌, ◌||◌}
 use lib.Ieee.{Float, nan, inf, fin, div, eq, ne, lt, le, of_bits}
@@ -8,8 +7,8 @@ use Rattle.types.specs.declared.answer.Interval.TheVariants.{Miss, Hit}
 use Rattle.float.specs.Rounded.{◌⊖◌, ◌⊘◌, +0}
 use Rattle.float.specs.Values.{min_of, max_of}
 use Rattle.float.proofs.MinMax.{minimum_picks, maximum_picks}
-use Rattle.slab.specs.Clip.{narrowed_of, ordered_of}
-use Rattle.slab.specs.declared.Slab.{Slab}
+use Rattle.slabs.specs.Clip.{narrowed_of, ordered_of}
+use Rattle.slabs.specs.declared.Slab.{Slab}
 
 pub zero_by_zero : +0 ⊘ +0 ≡ nan
 unfolding div of_bits

@@ -1,9 +1,9 @@
--- The results of a list of lines: how many entries they are, and that one line more adds its own behind them. Assumes nothing.
+-- The results of a list of lines: how many entries they are, and that one line more adds its own behind them.
 use mathlib.Core.Path.{◌≡◌, refl, sym, ap, ◌∙◌}
 use mathlib.Core.List.{List, [], ◌∷◌, ◌++◌, append_assoc, append-nil}
 use Prim.Native.Nat.{ℕ, zero, suc, ◌+◌, ◌*◌, ◌≤◌}
 use native.Mathlib.Omega.{arith}
-use lib.ListN.{length, take, drop, get_or, length-append, length-drop}
+use lib.ListN.{length, take, drop, get_or, length-append}
 use lib.Seq.{sets, take-add, drop-cons, length-take-le}
 use lib.Ieee.{Float, nan}
 use Rattle.types.specs.declared.shape.Aabb2.{Aabb2}
@@ -87,10 +87,6 @@ module _ (b : Aabb2) where
 
   length_first : (lines : List Float) (n : ℕ) → 4 * n ≤ length lines → length (results_of b (take (4 * n) lines)) ≡ width * n
   length_first lines n h = length_results n (take (4 * n) lines) (length-take-le (4 * n) lines h)
-
-  pub length_over : (lines : List Float) (n : ℕ) (l : List Float) → 4 * n ≤ length lines → width * n ≤ length l → length (over lines n l) ≡ length l
-  length_over lines n l h k =
-      omega (arith, k, length-append (results_of b (take (4 * n) lines)) (drop (width * n) l), length_first lines n h, length-drop (width * n) l)
 
   -- one line's entries stored behind them
   pub next : (lines : List Float) (n : ℕ) (l es : List Float) → 4 * n + 4 ≤ length lines → width * n + width ≤ length l → length es ≡ width

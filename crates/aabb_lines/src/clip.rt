@@ -1,17 +1,17 @@
 // The clip of one line, in which each `if` only chooses between two values: LLVM makes no jumps of them, and works out several lines at a
-// time. A line alone is faster with the jumps of crates/slab.
+// time. A line alone is faster with the jumps of crates/slabs.
 ghost use Rattle.std.specs.Prelude.{◌≡◌, cond};
 ghost use Rattle.std.specs.Float.{nan};
 ghost use Rattle.std.specs.Float.Ieee.{eq};
 ghost use Rattle.float.specs.Rounded.{+0};
-ghost use Rattle.slab.specs.Clip.{all_finite_of, narrowed_of, ordered_of};
+ghost use Rattle.slabs.specs.Clip.{all_finite_of, narrowed_of, ordered_of};
 ghost use Rattle.aabb_lines.specs.Results.{encoded_of};
 ghost use Rattle.aabb_lines.specs.Structs.{interval_of, entries_of};
 
-use slab::Slab;
+use slabs::Slab;
 
 // An interval, or a miss: then its ends mean nothing.
-#[derive(Drop)]
+#[derive(Clone, Copy)]
 pub struct Ends {
     pub missed: bool,
     pub tmin: f32,
@@ -19,7 +19,7 @@ pub struct Ends {
 }
 
 // A line's entries in the list of results.
-#[derive(Drop)]
+#[derive(Clone, Copy)]
 pub struct Entries {
     pub hit: f32,
     pub tmin: f32,

@@ -1,4 +1,6 @@
 // A whole face: every line of a list against one box, in one call.
+#![tactic(auto)]
+
 mod clip;
 
 ghost use Rattle.std.specs.Prelude.{◌≡◌, ◌++◌, ◌+◌, ◌*◌, ◌≤◌, length, take, drop};

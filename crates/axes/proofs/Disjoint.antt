@@ -1,5 +1,5 @@
 -- Two ranges lie apart exactly if the intervals that specs/Disjoint.antt speaks of are disjoint; so an axis separates two boxes exactly if their
--- projections on it are. Assumes nothing.
+-- projections on it are.
 use mathlib.Core.Path.{◌≡◌, refl, sym, ap, ◌∙◌}
 use mathlib.Core.Logic.{inl, inr, ◌↔◌}
 use mathlib.Core.Bool.{Bool, true, false, not, true≢false}

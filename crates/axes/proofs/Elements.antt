@@ -1,4 +1,4 @@
--- A list of known length, element by element. Assumes nothing.
+-- A list of known length, element by element.
 use mathlib.Core.Path.{◌≡◌, refl, ap}
 use mathlib.Core.List.{List, [], ◌∷◌}
 use Prim.Native.Nat.{ℕ, zero, suc}

@@ -1,5 +1,4 @@
 -- The ends of a folded range are the least and the greatest of the list's numbers: one law, on a fold that keeps the first number in an order.
--- Assumes nothing.
 use mathlib.Core.Path.{◌≡◌, refl}
 use mathlib.Core.Logic.{inl, inr}
 use mathlib.Core.Bool.{Bool, true, false, cond}

@@ -1,4 +1,4 @@
--- Which of two sets of corners comes first, and whose axes come first, does not change whether they meet. Assumes nothing.
+-- Which of two sets of corners comes first, and whose axes come first, does not change whether they meet.
 use mathlib.Core.Path.{◌≡◌, refl, sym, ap, ◌∙◌}
 use mathlib.Core.Bool.{Bool, not, ◌||◌, or_assoc, or_comm}
 use mathlib.Core.List.{List, [], ◌∷◌, ◌++◌}

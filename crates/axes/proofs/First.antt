@@ -1,4 +1,4 @@
--- A search for the first element of a list of which a test holds, from place to place. Assumes nothing.
+-- A search for the first element of a list of which a test holds, from place to place.
 use mathlib.Core.Path.{◌≡◌, refl, sym, ap, ◌∙◌}
 use mathlib.Core.Bool.{Bool, true, false, not, cond, ◌||◌}
 use mathlib.Core.List.{List, [], ◌∷◌}

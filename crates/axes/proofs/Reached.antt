@@ -1,5 +1,5 @@
 -- The answer of a search in which a NaN is refused means what specs/Reached.antt says: it ends at the first axis that is not passed, and
--- each of its answers has one cause. Assumes nothing.
+-- each of its answers has one cause.
 use mathlib.Core.Path.{◌≡◌, refl, sym, ap, ◌∙◌}
 use mathlib.Core.Logic.{◌⊎◌, inl, inr}
 use mathlib.Core.Bool.{Bool, true, false, true≢false}

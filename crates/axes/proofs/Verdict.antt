@@ -1,4 +1,4 @@
--- A search in which a NaN is refused, by the laws of the search for the first element: it looks for the first axis that ends it. Assumes nothing.
+-- A search in which a NaN is refused, by the laws of the search for the first element: it looks for the first axis that ends it.
 use mathlib.Core.Path.{◌≡◌, refl, sym, ap}
 use mathlib.Core.Bool.{Bool, true, false, cond, ◌||◌, true≢false}
 use mathlib.Core.List.{List, [], ◌∷◌, ◌++◌}

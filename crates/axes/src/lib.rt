@@ -1,12 +1,14 @@
 // What a search for a separating axis is made of, in any dimension: the range of projections, whether two ranges lie apart, and
 // the axis's place.
+#![tactic(auto)]
+
 ghost use Rattle.std.specs.Prelude.{◌≡◌};
 ghost use Rattle.axes.specs.Axes.{is_none_of, widened_of, apart_of};
 
 use types::Range;
 
 // The place, from 0, of an axis in a list.
-#[derive(Drop)]
+#[derive(Clone, Copy)]
 pub enum Place {
     None,
     At(usize),
@@ -34,6 +36,7 @@ pub fn widened(r: Range, x: f32) -> Range
 }
 
 // Whether one range's maximum is strictly below the other's minimum. Both are tested, with no jump between.
+#[tactic(auto, unfolding(crate::specs::Axes::apart_of))]
 pub fn apart(a: Range, b: Range) -> bool
     ensures { result ≡ apart_of a b }
 {

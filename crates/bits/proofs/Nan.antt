@@ -1,4 +1,4 @@
--- Which patterns are a NaN. Assumes nothing.
+-- Which patterns are a NaN.
 use mathlib.Core.Path.{◌≡◌, refl, sym}
 use mathlib.Core.Bool.{true, false, not, true≢false}
 use Prim.Native.Nat.{ℕ, ◌/◌, ◌%◌, ◌≤◌, ◌<◌}

@@ -1,8 +1,12 @@
-// A float and its bits, at every pattern and every float: all NaN patterns are the one NaN of lib.Ieee.
+// A float and its bits, at every pattern and every float: all NaN patterns are the one NaN of `Rattle.std.specs.Float`.
+#![tactic(auto)]
+
 ghost use Rattle.std.specs.Prelude.{◌≡◌};
-ghost use lib.Ieee.{binary32, of_bits, to_bits, is_nan};
+ghost use Rattle.std.specs.Float.{binary32};
+ghost use Rattle.std.specs.Float.Ieee.{is_nan, of_bits, to_bits};
 
 // The float whose bits these are. `f32::from_bits` takes no NaN pattern: those are the ones above infinity's, the sign aside.
+#[tactic(auto, using(crate::proofs::Nan::below))]
 pub fn of_bits(bits: u32) -> f32
     ensures { result ≡ of_bits binary32 bits }
 {
@@ -13,6 +17,7 @@ pub fn of_bits(bits: u32) -> f32
     f32::from_bits(bits)
 }
 
+#[tactic(auto, using(float::proofs::Tests::self_differs))]
 pub fn is_nan(x: f32) -> bool
     ensures { result ≡ is_nan x }
 {
@@ -20,6 +25,7 @@ pub fn is_nan(x: f32) -> bool
 }
 
 // The bits of a float, and 7fc00000 for a NaN.
+#[tactic(auto, using(crate::proofs::Nan::quiet))]
 pub fn to_bits(x: f32) -> u32
     ensures { result ≡ to_bits binary32 x }
 {

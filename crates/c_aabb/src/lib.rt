@@ -1,4 +1,6 @@
 // Upright boxes: clipping lines, and what is inside.
+#![tactic(auto)]
+
 ghost use Rattle.std.specs.Prelude.{◌≡◌, length};
 ghost use Rattle.lists.specs.Lent.{leaves};
 ghost use Rattle.c_answers.specs.Answers.{of_interval, of_listed};

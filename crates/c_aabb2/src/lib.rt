@@ -1,4 +1,6 @@
 // Upright boxes: making, changing and measuring them, their pixels and tiles, and flat lists of them.
+#![tactic(auto)]
+
 ghost use Rattle.std.specs.Prelude.{◌≡◌, length};
 ghost use Rattle.c_answers.specs.Answers.{of_boxed, of_listed, of_nearest, of_pixels};
 ghost use Rattle.aabb.specs.Inside.{is_include_point_of, center_of};

@@ -1,4 +1,6 @@
 // Upright boxes of space: making, scaling and measuring them, what they hold and meet, and flat lists of them.
+#![tactic(auto)]
+
 ghost use Rattle.std.specs.Prelude.{◌≡◌};
 ghost use Rattle.c_answers.specs.Answers.{of_boxed3, of_corner, of_verdict};
 ghost use Rattle.aabb_3.specs.Inside.{center_of};

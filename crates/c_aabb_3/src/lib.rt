@@ -1,4 +1,6 @@
 // Upright boxes of space: clipping lines, and what is inside.
+#![tactic(auto)]
+
 ghost use Rattle.std.specs.Prelude.{◌≡◌};
 ghost use Rattle.c_answers.specs.Answers.{of_interval};
 ghost use Rattle.aabb_3.specs.Clip.{intersections_against_line_of};

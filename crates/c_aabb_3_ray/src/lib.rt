@@ -1,5 +1,7 @@
 // A ray against an upright box of space, apart from c_aabb_3: each has an archive of its own, in which the clip of a line has one caller, and
 // LLVM inlines it there.
+#![tactic(auto)]
+
 ghost use Rattle.std.specs.Prelude.{◌≡◌};
 ghost use Rattle.c_answers.specs.Answers.{of_interval};
 ghost use Rattle.aabb_3.specs.Clip.{intersections_against_ray_of};

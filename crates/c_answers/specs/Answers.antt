@@ -8,7 +8,7 @@ use Rattle.types.specs.declared.shape.Aabb3.{Aabb3}
 use Rattle.types.specs.declared.answer.Extent.{Extent}
 use Rattle.types.specs.declared.answer.Extent.TheVariants as extent
 use Rattle.types.specs.declared.answer.Length.{Length}
-use Rattle.types.specs.declared.answer.Length.TheVariants as length
+use Rattle.types.specs.declared.answer.Length.TheVariants as measured
 use Rattle.types.specs.declared.answer.Image.{Image}
 use Rattle.types.specs.declared.answer.Image.TheVariants as image
 use Rattle.types.specs.declared.answer.Nearest.{Nearest}
@@ -70,8 +70,8 @@ of_extent (extent.Some x) = float 0 x
 of_extent (extent.Refused n) = float n +0
 
 unfoldable pub of_length : Length → FloatAnswer
-of_length (length.Some x) = float 0 x
-of_length (length.Refused n) = float n +0
+of_length (measured.Some x) = float 0 x
+of_length (measured.Refused n) = float n +0
 
 unfoldable pub of_image : Image → PointAnswer
 of_image image.None = point none no_point

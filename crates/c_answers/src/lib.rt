@@ -1,5 +1,7 @@
 // Answers as C sees them. The status is 0 where there is an answer, 255 where there is none, and a refusal's number otherwise;
 // what is not answered is zero, and so is a place that is not told.
+#![tactic(auto, unfolding(crate::specs::Answers::of_extent, crate::specs::Answers::of_length, crate::specs::Answers::of_image, crate::specs::Answers::of_nearest, crate::specs::Answers::of_corner, crate::specs::Answers::of_boxed, crate::specs::Answers::of_boxed3, crate::specs::Answers::of_verdict, crate::specs::Answers::of_interval, crate::specs::Answers::of_pixels, crate::specs::Answers::of_listed, crate::specs::Answers::of_ink))]
+
 ghost use Rattle.std.specs.Prelude.{◌≡◌};
 ghost use Rattle.c_answers.specs.Answers.{of_extent, of_length, of_image, of_nearest, of_corner, of_boxed, of_boxed3, of_verdict, of_interval, of_pixels, of_listed, of_ink, of_widened};
 
@@ -10,7 +12,7 @@ use types::{
 
 // A number.
 #[repr(C)]
-#[derive(Drop)]
+#[derive(Clone, Copy)]
 pub struct FloatAnswer {
     pub status: u32,
     pub value: f32,
@@ -18,7 +20,7 @@ pub struct FloatAnswer {
 
 // A point.
 #[repr(C)]
-#[derive(Drop)]
+#[derive(Clone, Copy)]
 pub struct PointAnswer {
     pub status: u32,
     pub value: Vec2,
@@ -26,7 +28,7 @@ pub struct PointAnswer {
 
 // A point of space.
 #[repr(C)]
-#[derive(Drop)]
+#[derive(Clone, Copy)]
 pub struct Point3Answer {
     pub status: u32,
     pub value: Vec3,
@@ -34,7 +36,7 @@ pub struct Point3Answer {
 
 // An upright box.
 #[repr(C)]
-#[derive(Drop)]
+#[derive(Clone, Copy)]
 pub struct BoxAnswer {
     pub status: u32,
     pub value: Aabb2,
@@ -42,7 +44,7 @@ pub struct BoxAnswer {
 
 // An upright box of space.
 #[repr(C)]
-#[derive(Drop)]
+#[derive(Clone, Copy)]
 pub struct Box3Answer {
     pub status: u32,
     pub value: Aabb3,
@@ -50,7 +52,7 @@ pub struct Box3Answer {
 
 // Yes or no.
 #[repr(C)]
-#[derive(Drop)]
+#[derive(Clone, Copy)]
 pub struct BoolAnswer {
     pub status: u32,
     pub value: bool,
@@ -58,7 +60,7 @@ pub struct BoolAnswer {
 
 // The stretch of a line or a ray in a box, by the parameters t of its two ends: the points origin + t * direction.
 #[repr(C)]
-#[derive(Drop)]
+#[derive(Clone, Copy)]
 pub struct IntervalAnswer {
     pub status: u32,
     // Where it begins.
@@ -69,7 +71,7 @@ pub struct IntervalAnswer {
 
 // Columns from x0 up to and without x1, rows from y0 up to and without y1.
 #[repr(C)]
-#[derive(Drop)]
+#[derive(Clone, Copy)]
 pub struct PixelsAnswer {
     pub status: u32,
     // The first column.
@@ -84,7 +86,7 @@ pub struct PixelsAnswer {
 
 // How many entries: those written, or the most that there can be.
 #[repr(C)]
-#[derive(Drop)]
+#[derive(Clone, Copy)]
 pub struct CountAnswer {
     pub status: u32,
     pub count: usize,
@@ -94,7 +96,7 @@ pub struct CountAnswer {
 
 // The ink of a stroke: a length.
 #[repr(C)]
-#[derive(Drop)]
+#[derive(Clone, Copy)]
 pub struct InkAnswer {
     pub status: u32,
     pub value: f32,

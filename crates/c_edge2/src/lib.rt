@@ -1,4 +1,6 @@
 // Edges, and pen strokes along them.
+#![tactic(auto)]
+
 ghost use Rattle.std.specs.Prelude.{◌≡◌, true, length as entries};
 ghost use Rattle.c_answers.specs.Answers.{of_length, of_listed, of_ink};
 ghost use Rattle.pixels.specs.Answer.{overlapping_pixels_dda_of};

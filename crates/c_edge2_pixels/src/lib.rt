@@ -1,5 +1,7 @@
 // The walk of a stroke without the closing entry, and its bound, apart from c_edge2: each has an archive of its own, in which the walk has one
 // caller, and LLVM inlines it there.
+#![tactic(auto)]
+
 ghost use Rattle.std.specs.Prelude.{◌≡◌, false, length as entries};
 ghost use Rattle.c_answers.specs.Answers.{of_listed};
 ghost use Rattle.pixels.specs.Answer.{pixels_inside_of};

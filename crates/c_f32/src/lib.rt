@@ -1,4 +1,6 @@
 // Float helpers.
+#![tactic(auto)]
+
 ghost use Rattle.std.specs.Prelude.{◌≡◌};
 ghost use Rattle.std.specs.Float.Ieee.{to_signed, to_unsigned};
 ghost use Rattle.float.specs.Values.{abs_of, min_of, max_of, clamp_of};

@@ -6,7 +6,7 @@ use hatch_read::Read;
 
 // The version of a hatch list, and how many records were read.
 #[repr(C)]
-#[derive(Drop)]
+#[derive(Clone, Copy)]
 pub struct ReadAnswer {
     pub status: u32,
     // The version.
@@ -17,6 +17,7 @@ pub struct ReadAnswer {
     pub place: usize,
 }
 
+#[tactic(auto, unfolding(crate::specs::Answer::of_read))]
 pub fn read(a: Read) -> ReadAnswer
     ensures { result ≡ of_read a }
 {

@@ -1,6 +1,8 @@
 // Hatch lists, read, written and reported on. The bytes of a hatch list are "HSL", a 16-bit version, which is 1, a 16-bit count n of at most
 // 2,000, and n records of eight floats: box (min_x, min_y, max_x, max_y), origin (x, y), direction (x, y). Little-endian;
 // 7 + 32 n bytes in all. Records are read and written as floats, or as patterns, the bits of the floats, in which a NaN keeps its own.
+#![tactic(auto)]
+
 mod answer;
 
 ghost use Rattle.std.specs.Prelude.{◌≡◌, map, ◌≤◌, length, take};

@@ -1,4 +1,6 @@
 // Transforms.
+#![tactic(auto)]
+
 ghost use Rattle.std.specs.Prelude.{◌≡◌};
 ghost use Rattle.c_answers.specs.Answers.{of_image};
 ghost use Rattle.mat3.specs.Values.{transform_homogeneous_of};

@@ -1,4 +1,6 @@
 // Turned boxes.
+#![tactic(auto)]
+
 ghost use Rattle.std.specs.Prelude.{◌≡◌};
 ghost use Rattle.c_answers.specs.Answers.{of_nearest};
 ghost use Rattle.obb2.specs.Corners.{corner_points_of};

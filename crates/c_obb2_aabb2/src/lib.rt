@@ -1,5 +1,7 @@
 // A turned and an upright box, apart from c_obb2: each has an archive of its own, in which the search for an axis has one caller, and LLVM
 // inlines it there.
+#![tactic(auto)]
+
 ghost use Rattle.obb2_intersect.specs.Promise.{IsIntersectAabb2Promise};
 
 use types::{Aabb2, Obb2};

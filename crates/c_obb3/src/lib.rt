@@ -1,4 +1,6 @@
 // Turned boxes of space.
+#![tactic(auto)]
+
 ghost use Rattle.std.specs.Prelude.{◌≡◌};
 ghost use Rattle.c_answers.specs.Answers.{of_verdict};
 ghost use Rattle.obb3.specs.Corners.{corner_points_of};

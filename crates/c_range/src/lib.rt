@@ -1,4 +1,6 @@
 // Ranges of numbers.
+#![tactic(auto)]
+
 ghost use Rattle.std.specs.Prelude.{◌≡◌};
 ghost use Rattle.c_answers.specs.Answers.{of_extent};
 ghost use Rattle.range.specs.Values.{distance_to_range_of, intersection_length_of};

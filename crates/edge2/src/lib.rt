@@ -1,4 +1,6 @@
 // Edges, segments from one point to another: each routine under its name, whichever crate has it.
+#![tactic(auto)]
+
 pub use edge2_inside::intersection_length_against_aabb2;
 pub use edge2_measure::{
     culling_intersection, length, position_from_ratio, ratio_from_position, squared_length,

@@ -1,4 +1,6 @@
 // The length of an edge inside an upright box, as the Rust takes it.
+#![tactic(auto)]
+
 ghost use Rattle.std.specs.Prelude.{◌≡◌};
 ghost use Rattle.edge2_inside.specs.Inside.{shared_of, diagonal_of, intersection_length_against_aabb2_of};
 
@@ -18,6 +20,7 @@ fn shared(low: f32, high: f32, s: f32, e: f32) -> Extent
 }
 
 // The diagonal of the overlaps in x and in y; 0 where there is none. A refusal in y counts only where x has an overlap.
+#[tactic(auto, unfolding(crate::specs::Inside::diagonal_of))]
 fn diagonal(x: Extent, y: Extent) -> Length
     ensures { result ≡ diagonal_of x y }
 {
@@ -33,6 +36,7 @@ fn diagonal(x: Extent, y: Extent) -> Length
 }
 
 // Refused where a range is not ordered, y only once x has an overlap.
+#[tactic(auto, unfolding(crate::specs::Inside::intersection_length_against_aabb2_of))]
 pub fn intersection_length_against_aabb2(s: Vec2, e: Vec2, b: Aabb2) -> Length
     ensures { result ≡ intersection_length_against_aabb2_of s e b }
 {

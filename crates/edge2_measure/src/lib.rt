@@ -1,4 +1,6 @@
 // Lengths, directions and positions along an edge.
+#![tactic(auto)]
+
 ghost use Rattle.std.specs.Prelude.{◌≡◌};
 ghost use Rattle.edge2_measure.specs.Measure.{length_of, squared_length_of, unit_edge_vector_of, position_from_ratio_of, ratio_from_position_of, culling_intersection_of};
 ghost use Rattle.edge2_measure.specs.Measure.{spread_of, slack_of, below_of};
@@ -76,6 +78,7 @@ fn below(slack: f32, a: f32, b: f32, c: f32, d: f32) -> bool
 }
 
 // Whether the edges' boxes, widened by the slack, meet: where they do not, the edges cannot cross.
+#[tactic(auto, unfolding(crate::specs::Measure::culling_intersection_of))]
 pub fn culling_intersection(s0: Vec2, e0: Vec2, s1: Vec2, e1: Vec2) -> bool
     ensures { result ≡ culling_intersection_of s0 e0 s1 e1 }
 {

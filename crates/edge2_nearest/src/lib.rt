@@ -1,4 +1,6 @@
 // The nearest point of an edge.
+#![tactic(auto)]
+
 ghost use Rattle.std.specs.Prelude.{◌≡◌};
 ghost use Rattle.edge2_nearest.specs.Nearest.{nearest_origin_of, nearest_to_point_of};
 
@@ -6,7 +8,7 @@ use types::Vec2;
 
 // A point of an edge, and its ratio along the edge.
 #[repr(C)]
-#[derive(Drop)]
+#[derive(Clone, Copy)]
 pub struct OnEdge {
     // 0 at the first end, 1 at the second.
     pub ratio: f32,
@@ -15,6 +17,7 @@ pub struct OnEdge {
 }
 
 // The point nearest to the origin. An edge whose computed squared length is zero gives its midpoint, at one half.
+#[tactic(auto, unfolding(crate::specs::Nearest::nearest_origin_of))]
 pub fn nearest_origin(s: Vec2, e: Vec2) -> OnEdge
     ensures { result ≡ nearest_origin_of s e }
 {
@@ -42,6 +45,7 @@ pub fn nearest_origin(s: Vec2, e: Vec2) -> OnEdge
 }
 
 // The point nearest to p: seen from p, that is the point nearest to the origin.
+#[tactic(auto, unfolding(crate::specs::Nearest::nearest_to_point_of))]
 pub fn nearest_to_point(s: Vec2, e: Vec2, p: Vec2) -> OnEdge
     ensures { result ≡ nearest_to_point_of s e p }
 {

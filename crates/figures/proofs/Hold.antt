@@ -1,6 +1,8 @@
--- The rows hold for the definitions: antt computes each answer. Assumes nothing.
-use mathlib.Core.Path.{refl}
-use lib.Ieee.{round, of_int, of_bits, neg, add, sub, mul, div, lt, le, ne, eq, is_nan, to_unsigned}
+-- The rows hold for the definitions: antt computes each answer.
+use mathlib.Core.Path.{◌≡◌, refl, sym, ap, ◌∙◌}
+use mathlib.Core.Bool.{false}
+use lib.IntN.{negsuc}
+use lib.Ieee.{Float, fin, round, of_int, of_bits, neg, add, sub, mul, div, lt, le, ne, eq, is_nan, to_unsigned}
 use Rattle.float.specs.Values.{abs_of, min_of, max_of}
 use Rattle.rounding.specs.Values.{whole_of, ceil_of}
 use Rattle.aabb.specs.Clip.{narrowed_of, narrow_all, ordered_of, clip_over, ahead_of, intersections_against_line_of, intersections_against_ray_of}
@@ -20,7 +22,15 @@ use Rattle.stroke_check.specs.Answer.{if_accepted}
 use Rattle.stroke_bound.specs.Bound.{larger_difference_of, pixels_bound_of}
 use Rattle.pixels.specs.Answer.{walk_of}
 use Rattle.stroke_ink.specs.Ink.{bounded_of, length_over_of, drawn_of, ink_of}
+use Rattle.types.specs.declared.answer.Ink.{Ink}
+use Rattle.types.specs.declared.answer.Ink.TheVariants.{Some}
+use Rattle.root.specs.Root.{sqrt_of}
 use Rattle.figures.specs.Claim.{FiguresHold}
+
+-- The root of x by the value of x: a row with a wrong length then differs from the right one in that number, where the two roots would be compared
+-- step by step, without end.
+by_square : {r : Ink} {x : Float} (v : Float) → x ≡ v → r ≡ Some (sqrt_of v) → r ≡ Some (sqrt_of x)
+by_square v e is = is ∙ sym (ap (λ y. Some (sqrt_of y)) e)
 
 pub hold : FiguresHold
 unfolding round of_int of_bits neg add sub mul div lt le ne eq is_nan to_unsigned abs_of min_of max_of whole_of ceil_of
@@ -37,5 +47,5 @@ hold = (
   ((refl, refl), ((refl, refl), ((refl, refl), (refl, (refl, (refl, tt)))))),
   (λ _ _. refl, (λ _ _. refl, (λ _ _. refl, (λ _ _. refl, (λ _ _. refl, (λ _ _. refl, (λ _ _. refl, (λ _ _. refl, (λ _ _. refl, (λ _ _. refl, (λ _ _. refl, (λ _ _. refl, (λ _ _. refl, tt))))))))))))),
   ((refl, refl, refl), ((refl, refl, refl), ((refl, refl, refl), ((refl, refl, refl), ((refl, refl, refl), ((refl, refl, refl), ((refl, refl, refl), (refl, (refl, (refl, (refl, tt))))))))))),
-  (refl, (refl, (refl, (refl, (refl, (refl, (refl, (refl, (refl, (refl, (refl, (refl, (refl, (refl, tt)))))))))))))),
+  (by_square (fin false 17 (negsuc 3)) refl refl, (refl, (refl, (refl, (refl, (refl, (refl, (refl, (refl, (refl, (refl, (refl, (refl, (refl, tt)))))))))))))),
 )

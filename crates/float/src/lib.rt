@@ -1,4 +1,6 @@
 // Absolute value, finiteness, minimum, maximum and clamp on f32. specs/Values.antt has what each returns; `finite` is the toolchain's.
+#![tactic(auto, unfolding(crate::specs::Values::clamp_of, crate::specs::Values::lesser_of, crate::specs::Values::greater_of))]
+
 ghost use Rattle.std.specs.Prelude.{◌≡◌};
 ghost use Rattle.std.specs.Float.Ieee.Scale.{finite};
 ghost use Rattle.float.specs.Values.{abs_of, min_of, max_of, clamp_of, lesser_of, greater_of, number_or_of};

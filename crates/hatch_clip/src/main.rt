@@ -1,8 +1,10 @@
 // Reads a hatch list on standard input and prints the report on it.
+#![tactic(auto)]
+
 ghost use Rattle.std.specs.Prelude.{length};
 ghost use Rattle.hatch_clip.specs.Input.{Within};
 
-use libc::{STDERR_FILENO, STDIN_FILENO, STDOUT_FILENO};
+use std::io::Read;
 
 // The longest file has 64,007 bytes. One byte more tells a longer file, which is refused and not cut.
 const BYTES: usize = 64008;
@@ -18,16 +20,15 @@ enum Input {
 }
 
 // Reads until the buffer is full or the input ends.
-fn read_all(buffer: &mut [u8]) -> Input
+#[tactic(auto, unfolding(crate::specs::Input::Within))]
+fn read_all(from: &mut impl Read, buffer: &mut [u8]) -> Input
     ensures { Within (length buffer.old) result }
 {
     let mut n = 0;
     while n < buffer.len() {
-        let got = libc::read(STDIN_FILENO, &mut buffer[n..]);
-        if got < 0 {
+        let Ok(more) = from.read(&mut buffer[n..]) else {
             return Input::Failed;
-        }
-        let more = io::count(got, &buffer[n..]);
+        };
         if more == 0 {
             return Input::Bytes(n);
         }
@@ -36,15 +37,16 @@ fn read_all(buffer: &mut [u8]) -> Input
     Input::Bytes(n)
 }
 
-fn main() {
+#[tactic(auto, unfolding(crate::specs::Input::Within))]
+fn main(rt: HostRuntime) {
     let mut bytes = [0u8; BYTES];
-    let Input::Bytes(n) = read_all(&mut bytes) else {
-        io::write_all(STDERR_FILENO, b"hatch_clip: cannot read standard input\n");
+    let Input::Bytes(n) = read_all(&mut rt.stdin(), &mut bytes) else {
+        let _ = rt.eprint("hatch_clip: cannot read standard input\n");
         return;
     };
     let mut out = [0u8; REPORT];
     let m = report::report(&bytes[..n], &mut out);
-    if !io::write_all(STDOUT_FILENO, &out[..m]) {
-        io::write_all(STDERR_FILENO, b"hatch_clip: cannot write standard output\n");
+    if rt.write_all(&out[..m]).is_err() {
+        let _ = rt.eprint("hatch_clip: cannot write standard output\n");
     }
 }

@@ -1,5 +1,4 @@
--- Small files, from the bits of their floats: no record, one, and one with seven entries more, which make no record. Computed. Assumes
--- nothing.
+-- Small files, from the bits of their floats: no record, one, and one with seven entries more, which make no record. Computed.
 use mathlib.Core.Path.{◌≡◌, refl}
 use mathlib.Core.List.{List, [], ◌∷◌, ◌++◌, map}
 use Prim.Native.Nat.{ℕ}

@@ -1,5 +1,4 @@
--- A file written and read back, and a file read and written again, for any mark of three bytes, any table and any kind of record. Assumes
--- nothing.
+-- A file written and read back, and a file read and written again, for any mark of three bytes, any table and any kind of record.
 use mathlib.Core.Path.{◌≡◌, refl, sym, ap, ◌∙◌}
 use mathlib.Core.Bool.{Bool, true, false, ◌&&◌}
 use mathlib.Core.List.{List, [], ◌∷◌, ◌++◌, append_assoc}

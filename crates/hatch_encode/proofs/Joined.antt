@@ -1,4 +1,4 @@
--- Entries that stand one after the other, each of w places, and the parts of a list. Assumes nothing.
+-- Entries that stand one after the other, each of w places, and the parts of a list.
 use mathlib.Core.Path.{◌≡◌, refl, sym, ap, ◌∙◌}
 use mathlib.Core.List.{List, [], ◌∷◌, ◌++◌, map, append_assoc, append-nil}
 use Prim.Native.Nat.{ℕ, zero, suc, ◌+◌, ◌*◌, ◌<◌, ◌≤◌}

@@ -1,4 +1,4 @@
--- A number and its bytes, of any count, and what is read at a byte. Assumes nothing.
+-- A number and its bytes, of any count, and what is read at a byte.
 use mathlib.Core.Path.{◌≡◌, refl, sym, ap, ◌∙◌, subst}
 use mathlib.Core.List.{List, [], ◌∷◌}
 use Prim.Native.Nat.{ℕ, zero, suc, ◌+◌, ◌*◌, ◌/◌, ◌%◌, ◌<◌, ◌≤◌}

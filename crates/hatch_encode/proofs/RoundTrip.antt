@@ -1,5 +1,5 @@
 -- What is written reads as what it was written from, and what was read is written as it stood: every bit, those of a NaN too. For any mark of
--- three bytes and any table with a version whose records are eight floats. Assumes nothing.
+-- three bytes and any table with a version whose records are eight floats.
 use mathlib.Core.Path.{◌≡◌, refl, sym, ap, ◌∙◌}
 use mathlib.Core.List.{List, []}
 use Prim.Native.Nat.{ℕ, ◌+◌, ◌*◌, ◌/◌, ◌%◌, ◌<◌, ◌≤◌}

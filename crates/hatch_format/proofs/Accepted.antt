@@ -1,4 +1,4 @@
--- Which headers are accepted, for any mark and any table: both ways. And what an accepted file says. Assumes nothing.
+-- Which headers are accepted, for any mark and any table: both ways. And what an accepted file says.
 use mathlib.Core.Path.{◌≡◌, refl, sym, ap, ◌∙◌, subst}
 use mathlib.Core.Bool.{Bool, true, false, cond}
 use mathlib.Core.List.{List}

@@ -1,4 +1,4 @@
--- The numbers that an answer can have. Assumes nothing.
+-- The numbers that an answer can have.
 use mathlib.Core.Path.{◌≡◌, refl, subst}
 use mathlib.Core.Bool.{Bool, true, false, cond}
 use mathlib.Core.List.{List}

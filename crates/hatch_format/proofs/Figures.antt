@@ -1,4 +1,4 @@
--- Small files, and what is read of each: every refusal, in the table's order, and a file that is accepted. Computed. Assumes nothing.
+-- Small files, and what is read of each: every refusal, in the table's order, and a file that is accepted. Computed.
 use mathlib.Core.Path.{◌≡◌, refl}
 use mathlib.Core.List.{List, [], ◌∷◌, ◌++◌, map}
 use Prim.Native.Nat.{ℕ}

@@ -1,4 +1,4 @@
--- Exactly document 01's hatch lists are accepted. Assumes nothing.
+-- Exactly document 01's hatch lists are accepted.
 use mathlib.Core.Path.{◌≡◌, refl, ap, ◌∙◌, subst}
 use mathlib.Core.List.{List}
 use Prim.Native.Nat.{ℕ, ◌+◌, ◌*◌, ◌≤◌}

@@ -1,4 +1,4 @@
--- What a header is, by the tests that the code makes. Assumes nothing.
+-- What a header is, by the tests that the code makes.
 use mathlib.Core.Path.{◌≡◌, refl, sym, ap, ◌∙◌}
 use mathlib.Core.Bool.{true, false}
 use mathlib.Core.List.{List}

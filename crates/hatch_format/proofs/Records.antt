@@ -1,4 +1,4 @@
--- The records of an accepted file, read one at a time. Assumes nothing.
+-- The records of an accepted file, read one at a time.
 use mathlib.Core.Path.{◌≡◌, refl, sym, ap, ◌∙◌}
 use mathlib.Core.Bool.{Bool, true, false, cond}
 use mathlib.Core.List.{List, map}

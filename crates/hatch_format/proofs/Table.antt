@@ -1,4 +1,4 @@
--- A row that is found in a table: what holds of each row holds of it, and its version is the one looked for. Assumes nothing.
+-- A row that is found in a table: what holds of each row holds of it, and its version is the one looked for.
 use mathlib.Core.Path.{◌≡◌, refl, subst}
 use mathlib.Core.Bool.{Bool, true, false, cond}
 use mathlib.Core.List.{List, [], ◌∷◌}

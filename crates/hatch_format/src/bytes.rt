@@ -46,6 +46,7 @@ fn words(bytes: &[u8], at: usize) -> [u32; 8]
 }
 
 // The bits of the eight floats of the record at a byte: zeros where the bytes end before it does.
+#[tactic(auto, unfolding(crate::specs::Decode::record_bits_of))]
 pub fn record_bits(bytes: &[u8], at: usize) -> [u32; 8]
     ensures { result ≡ record_bits_of bytes.now at }
 {
@@ -58,6 +59,7 @@ pub fn record_bits(bytes: &[u8], at: usize) -> [u32; 8]
     words(bytes, at)
 }
 
+#[tactic(auto, using(crate::proofs::Marks::left_more, crate::proofs::Marks::left_other, crate::proofs::Marks::left_short, crate::proofs::Marks::left_end))]
 pub(crate) fn starts_with(bytes: &[u8], mark: &[u8]) -> bool
     ensures { result ≡ starts_with_of mark.now bytes.now }
 {

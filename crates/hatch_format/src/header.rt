@@ -15,7 +15,7 @@ pub const COUNT_AT: usize = 5;
 pub const RECORDS_AT: usize = 7;
 
 // A version, the bytes of one of its records, and the most records.
-#[derive(Drop)]
+#[derive(Clone, Copy)]
 pub struct Row {
     pub version: usize,
     pub width: usize,
@@ -23,14 +23,14 @@ pub struct Row {
 }
 
 // The row of a version, where the table has one.
-#[derive(Drop)]
+#[derive(Clone, Copy)]
 pub enum Layout {
     Unknown,
     Known(Row),
 }
 
 // The number of a refusal and the byte that it tells, or the row of the file's version and the count.
-#[derive(Drop)]
+#[derive(Clone, Copy)]
 pub enum Head {
     Refused { number: u32, place: usize },
     Accepted { row: Row, count: usize },
@@ -47,6 +47,7 @@ pub fn version_one() -> Row
     }
 }
 
+#[tactic(auto, unfolding(crate::specs::Format::layout_of))]
 fn layout_of(version: usize) -> Layout
     ensures { result ≡ layout_of rows version }
 {
@@ -58,6 +59,7 @@ fn layout_of(version: usize) -> Layout
 }
 
 // A length that is not the expected one: the byte is where the shorter of the two ends.
+#[tactic(auto, unfolding(crate::specs::Format::wrong_length_of))]
 fn wrong_length(size: usize, expected: usize) -> Head
     ensures { result ≡ wrong_length_of size expected }
 {
@@ -69,6 +71,7 @@ fn wrong_length(size: usize, expected: usize) -> Head
 }
 
 // Tests the count, then the length.
+#[tactic(auto, unfolding(crate::specs::Format::sized_of))]
 fn sized(row: Row, size: usize, count: usize) -> Head
     requires { (row.width < 65536) × (count < 65536) }
     ensures { result ≡ sized_of row size count }

@@ -1,4 +1,6 @@
 // The format of a hatch list: its header, by the table of versions, and the bits of its records.
+#![tactic(auto)]
+
 mod bytes;
 mod header;
 

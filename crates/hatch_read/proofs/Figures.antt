@@ -1,4 +1,4 @@
--- The list to read into comes last, and is told at the end of the file: one record, and room for seven floats. Computed. Assumes nothing.
+-- The list to read into comes last, and is told at the end of the file: one record, and room for seven floats. Computed.
 use mathlib.Core.Path.{◌≡◌, refl}
 use Rattle.hatch_format.specs.Bytes.{starts_with_of}
 use Rattle.hatch_format.specs.Format.{hsl, rows, layout_of, wrong_length_of, sized_of, versioned_of, head_of}

@@ -1,4 +1,4 @@
--- A lent list that is filled with the floats of a file, record after record, each through f. Assumes nothing.
+-- A lent list that is filled with the floats of a file, record after record, each through f.
 use mathlib.Core.Path.{◌≡◌, sym, ap, ◌∙◌}
 use mathlib.Core.List.{List, map}
 use Prim.Native.Nat.{ℕ, ◌+◌, ◌*◌, ◌-◌, ◌<◌, ◌≤◌}

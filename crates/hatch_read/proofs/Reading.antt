@@ -1,4 +1,4 @@
--- What a reader does, by what it found the header to be. Assumes nothing.
+-- What a reader does, by what it found the header to be.
 use mathlib.Core.Path.{◌≡◌, refl, sym, ap, ◌∙◌, subst}
 use mathlib.Core.Bool.{Bool, true, false, cond}
 use mathlib.Core.List.{List, map}

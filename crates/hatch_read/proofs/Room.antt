@@ -1,4 +1,4 @@
--- The header with a list to read into, by the test that the code makes. Assumes nothing.
+-- The header with a list to read into, by the test that the code makes.
 use mathlib.Core.Path.{◌≡◌, sym, ap, ◌∙◌}
 use Prim.Native.Nat.{ℕ, ◌*◌, ◌/◌, ◌<◌, ◌≤◌}
 use native.Mathlib.Omega.{arith}

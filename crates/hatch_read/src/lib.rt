@@ -1,4 +1,6 @@
 // The records of a hatch list, read into a lent list of their floats' bits or of the floats, eight a record.
+#![tactic(auto)]
+
 ghost use Rattle.std.specs.Prelude.{◌≡◌, map, ◌+◌, ◌*◌, ◌≤◌, length, take, drop};
 ghost use Rattle.std.proofs.lemmas.List.Edits.{sets};
 ghost use Rattle.lists.specs.Lent.{written};
@@ -13,7 +15,7 @@ use hatch_format::{HSL, Head, RECORDS_AT};
 const RECORD: usize = 32;
 
 // What became of a file. A refusal tells its byte too, and the list keeps its contents.
-#[derive(Drop)]
+#[derive(Clone, Copy)]
 pub enum Read {
     Refused { number: u32, place: usize },
     Accepted { version: usize, count: usize },
@@ -59,6 +61,7 @@ fn head_within(bytes: &[u8], room: usize) -> Head
     }
 }
 
+#[tactic(auto, using(lists::proofs::Fill::sets_more))]
 fn store_patterns(out: &mut [u32], at: usize, entries: &[u32])
     requires { at + length entries.now ≤ length out.old }
     ensures { out.new ≡ sets out.old at entries.now }
@@ -70,6 +73,7 @@ fn store_patterns(out: &mut [u32], at: usize, entries: &[u32])
     }
 }
 
+#[tactic(auto, using(lists::proofs::Fill::sets_more))]
 fn store_floats(out: &mut [f32], at: usize, entries: &[f32])
     requires { at + length entries.now ≤ length out.old }
     ensures { out.new ≡ sets out.old at entries.now }

@@ -1,21 +1,17 @@
--- What a writer answers and leaves, by the test that it made, and what that says of document 02's two sentences. Assumes nothing.
+-- What a writer answers and leaves, by the test that it made, and what that says of document 02's two sentences.
 use mathlib.Core.Path.{◌≡◌, refl, sym, ap, ◌∙◌}
 use mathlib.Core.Bool.{Bool, true, false, cond}
 use mathlib.Core.List.{List, [], ◌∷◌, ◌++◌, map}
-use mathlib.Core.Logic.{inl, inr}
-use Prim.Native.Nat.{ℕ, zero, suc, ◌+◌, ◌*◌, ◌<◌, ◌≤◌}
+use Prim.Native.Nat.{ℕ, zero, suc, ◌+◌, ◌*◌, ◌≤◌}
 use native.Mathlib.Omega.{arith}
 use lib.Dec.{T, ltb, lit<}
 use lib.ListN.{length, get_or, take, drop}
 use lib.Seq.{sets, take_at}
 use lib.Ieee.{Float, nan, binary32, fits}
 use lib.Ieee.Bits.{of_bits-to_bits, to_bits-lt}
-use denote.Enum.Declared.{tag_of}
-use types.Run.{OneOf}
-use borrow.Author.Tests.{lt-ltb, le-ltb, ltb-false}
+use borrow.Author.Tests.{le-ltb, ltb-false}
 use Rattle.types.specs.declared.answer.Listed.{Listed}
 use Rattle.types.specs.declared.answer.Listed.TheVariants.{Count, Refused, RefusedAt}
-use Rattle.types.specs.contracts.answer.Listed.{the_type}
 use Rattle.lists.specs.Lent.{written, leaves}
 use Rattle.lists.proofs.Fill.{sets_append}
 use Rattle.lists.proofs.Lent.{no_count, same_count, sets_written}
@@ -31,17 +27,9 @@ use Rattle.hatch_encode.proofs.Joined.{joined_twice, joined_map, count_records, 
 use Rattle.hatch_encode.specs.RoundTrip.{Below, InTable}
 use Rattle.hatch_encode.proofs.RoundTrip.{length_encode, decodes_encoded, encodes_decoded}
 
--- ---- the three answers
+-- ---- the answers
 
 module _ (r : Row) (n room : ℕ) where
-  pub too_many : r.limit < n → Refused 12 ≡ size_of r n room
-  unfolding size_of
-  too_many h = rw (lt-ltb r.limit n h)
-
-  pub too_short : n ≤ r.limit → room < expected_length r n → Refused 1 ≡ size_of r n room
-  unfolding size_of
-  too_short h g = rw (le-ltb r.limit n h, lt-ltb room (expected_length r n) g)
-
   pub has_room : n ≤ r.limit → expected_length r n ≤ room → Count (expected_length r n) ≡ size_of r n room
   unfolding size_of
   has_room h g = rw (le-ltb r.limit n h, le-ltb room (expected_length r n) g)
@@ -83,13 +71,12 @@ file_stored ps l m e =
     ∙ ap (sets l 0) (file_parts ps)
     ∙ sets_written (encode hsl 1 ps) l (omega (arith, length_encode hsl refl 1 ps, room))
 
--- an answer that is no count, which is variant 0 of `Listed`
-refused_keeps : (a : Listed) → OneOf (1 ∷ 2 ∷ []) (tag_of the_type a) → (es l : List ℕ) → leaves a es l ≡ l
+-- an answer that is no count
+refused_keeps : (a : Listed) → ((n : ℕ) → a ≡ Count n → ⊥) → (es l : List ℕ) → leaves a es l ≡ l
 unfolding leaves
-refused_keeps (Count m) (inl e) es l = absurd (omega arith)
-refused_keeps (Count m) (inr e) es l = absurd (omega arith)
-refused_keeps (Refused k) refusal es l = refl
-refused_keeps (RefusedAt k place) refusal es l = refl
+refused_keeps (Count m) never es l = absurd (never m refl)
+refused_keeps (Refused k) never es l = refl
+refused_keeps (RefusedAt k place) never es l = refl
 
 -- the answer a of `begin` for n records, and the list that it leaves
 module _ (ps l : List ℕ) (n : ℕ) (count : n ≡ record_count_of ps) {a : Listed} {l₁ : List ℕ} (told : a ≡ size_of version_one_of n (length l))
@@ -107,8 +94,8 @@ module _ (ps l : List ℕ) (n : ℕ) (count : n ≡ record_count_of ps) {a : Lis
       ∙ ap (λ (b : Listed). leaves b (encode hsl 1 ps) l) (sym e)
 
   -- a refusal: the list is as it was
-  pub stays : OneOf (1 ∷ 2 ∷ []) (tag_of the_type a) → l₁ ≡ leaves a (encode hsl 1 ps) l
-  stays refusal = left ∙ refused_keeps a refusal (head_bytes hsl 1 n) l ∙ sym (refused_keeps a refusal (encode hsl 1 ps) l)
+  pub stays : ((m : ℕ) → a ≡ Count m → ⊥) → l₁ ≡ leaves a (encode hsl 1 ps) l
+  stays never = left ∙ refused_keeps a never (head_bytes hsl 1 n) l ∙ sym (refused_keeps a never (encode hsl 1 ps) l)
 
 -- ---- document 02's two sentences, of a call that answered r and left l'
 
@@ -149,7 +136,7 @@ module _ (ps l l' : List ℕ) (r : Listed) (answers : r ≡ write_of ps l) (left
 -- ---- floats and their bits
 
 -- each float of a list is an f32
-abbrev Floats : List Float → Type 0
+abbrev pub Floats : List Float → Type 0
 Floats s = (i : ℕ) → T (fits binary32 (get_or s i nan))
 
 pub bits_below : (s : List Float) → Floats s → Below 4294967296 (map bits_of s)

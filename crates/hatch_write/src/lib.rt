@@ -1,5 +1,7 @@
 // Hatch lists of version 1, written into a lent list of bytes from their floats' bits or from the floats, eight a record. An incomplete
 // last record does not count.
+#![tactic(auto)]
+
 mod put;
 
 ghost use Rattle.std.specs.Prelude.{◌≡◌, map, ◌/◌, length};
@@ -21,6 +23,7 @@ fn records_of(entries: usize) -> usize
 }
 
 // Refuses too many records, then a list that is too short for them. Else puts the header and answers how many bytes the file has.
+#[tactic(auto, unfolding(crate::specs::Write::size_of, lists::specs::Lent::leaves))]
 fn begin(out: &mut [u8], count: usize) -> Listed
     ensures value { result ≡ size_of version_one_of count (length out.old) }
     ensures out_after { out.new ≡ leaves result (head_bytes hsl 1 count) out.old }

@@ -25,6 +25,7 @@ fn put_word(out: &mut [u8], at: usize, x: u32)
     out[at + 3] = (x / 256 / 256 / 256 % 256) as u8;
 }
 
+#[tactic(auto, using(lists::proofs::Fill::sets_more))]
 fn put_bytes(out: &mut [u8], at: usize, bytes: &[u8])
     requires { at + length bytes.now ≤ length out.old }
     ensures { out.new ≡ sets out.old at bytes.now }

@@ -1,4 +1,6 @@
 // 3 by 3 matrices as homogeneous transforms of the plane.
+#![tactic(auto, unfolding(crate::specs::Values::transform_homogeneous_of))]
+
 ghost use Rattle.std.specs.Prelude.{◌≡◌};
 ghost use Rattle.mat3.specs.Values.{transform_homogeneous_of};
 

@@ -1,4 +1,6 @@
 // The corners of a turned box.
+#![tactic(auto)]
+
 ghost use Rattle.std.specs.Prelude.{◌≡◌};
 ghost use Rattle.obb2_corners.specs.Corners.{corner_points_of};
 
@@ -6,7 +8,7 @@ use types::{Obb2, Vec2};
 
 // Four corners, each joined to the next by an edge, and the last to the first.
 #[repr(C)]
-#[derive(Drop)]
+#[derive(Clone, Copy)]
 pub struct Corners {
     // c + u + v.
     pub p0: Vec2,

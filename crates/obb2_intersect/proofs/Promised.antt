@@ -1,5 +1,5 @@
 -- An answer that is the definition's has what specs/Promise.antt says: it is no exactly if an axis separates the boxes, and which of two
--- turned boxes comes first does not change it. Assumes nothing.
+-- turned boxes comes first does not change it.
 use mathlib.Core.Path.{◌≡◌, ◌∙◌}
 use mathlib.Core.Bool.{Bool}
 use mathlib.Core.List.{◌++◌}

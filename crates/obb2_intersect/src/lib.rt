@@ -1,4 +1,6 @@
 // Whether a turned box meets another box, by separating axes.
+#![tactic(auto)]
+
 mod intersect;
 mod search;
 

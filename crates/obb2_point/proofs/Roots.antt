@@ -1,4 +1,4 @@
--- Which floats have no root, and which of two has not the lesser one, by one comparison each. Assumes nothing.
+-- Which floats have no root, and which of two has not the lesser one, by one comparison each.
 use mathlib.Core.Path.{◌≡◌, refl, sym, ap, ◌∙◌}
 use mathlib.Core.Bool.{Bool, true, false, not, true≢false}
 use Prim.Native.Nat.{ℕ, zero, suc, ◌*◌, ◌<◌}

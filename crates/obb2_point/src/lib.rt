@@ -1,4 +1,6 @@
 // A turned box and a point: whether the box includes it, and the box's point nearest to it.
+#![tactic(auto)]
+
 ghost use Rattle.std.specs.Prelude.{◌≡◌};
 ghost use Rattle.std.specs.Float.Ieee.{is_nan};
 ghost use Rattle.obb2_point.specs.Point.{beyond_of, is_include_point2_of, on_edge_of, distance_of, nearer_of, chosen_of, nearest_point2_of};
@@ -7,6 +9,7 @@ use obb2_corners::corner_points;
 use types::{Nearest, Obb2, Vec2};
 
 // Whether d, seen along the half edge v, lies past either end of the whole edge. A NaN lies past neither.
+#[tactic(auto, unfolding(crate::specs::Point::beyond_of))]
 fn beyond(d: Vec2, v: Vec2) -> bool
     ensures { result ≡ beyond_of d v }
 {
@@ -19,6 +22,7 @@ fn beyond(d: Vec2, v: Vec2) -> bool
 }
 
 // Whether the point lies past no end of either edge: a NaN counts as inside, as in the Rust.
+#[tactic(auto, unfolding(crate::specs::Point::is_include_point2_of))]
 pub fn is_include_point2(o: Obb2, p: Vec2) -> bool
     ensures { result ≡ is_include_point2_of o p }
 {
@@ -30,7 +34,7 @@ pub fn is_include_point2(o: Obb2, p: Vec2) -> bool
 }
 
 // A point of the box's outline, and the square of its distance from the point asked about.
-#[derive(Drop)]
+#[derive(Clone, Copy)]
 struct Candidate {
     point: Vec2,
     square: f32,
@@ -56,6 +60,7 @@ fn nan_distance(c: Candidate) -> bool
 }
 
 // The nearer of two, the first where they are equally near. Roots are slow, and a root is below another only if its square is.
+#[tactic(auto, unfolding(crate::specs::Point::nearer_of))]
 fn nearer(a: Candidate, b: Candidate) -> Candidate
     ensures { result ≡ nearer_of a b }
 {
@@ -68,6 +73,7 @@ fn nearer(a: Candidate, b: Candidate) -> Candidate
 }
 
 // The nearest of four, refused where a distance is NaN.
+#[tactic(auto, unfolding(crate::specs::Point::chosen_of))]
 fn chosen(a: Candidate, b: Candidate, c: Candidate, d: Candidate) -> Nearest
     ensures { result ≡ chosen_of a b c d }
 {
@@ -80,6 +86,7 @@ fn chosen(a: Candidate, b: Candidate, c: Candidate, d: Candidate) -> Nearest
 }
 
 // The point itself where the box includes it, and else the nearest point of the four edges. Refused where one of their distances is NaN.
+#[tactic(auto, unfolding(crate::specs::Point::nearest_point2_of))]
 pub fn nearest_point2(o: Obb2, p: Vec2) -> Nearest
     ensures { result ≡ nearest_point2_of o p }
 {

@@ -1,4 +1,6 @@
 // The corners of a turned box of space.
+#![tactic(auto)]
+
 ghost use Rattle.std.specs.Prelude.{◌≡◌};
 ghost use Rattle.obb3_corners.specs.Corners.{parts_of, corner_points_of};
 
@@ -6,7 +8,7 @@ use types::{Obb3, Vec3};
 use vec3::{add, sub};
 
 // The centre and the three half edges.
-#[derive(Drop)]
+#[derive(Clone, Copy)]
 pub struct Frame {
     pub c: Vec3,
     pub u: Vec3,
@@ -44,7 +46,7 @@ pub fn parts(o: Obb3) -> Frame
 // Eight corners of space: four of one face, each joined to the next by an edge and the last to the first, then those of the opposite
 // face in the same order.
 #[repr(C)]
-#[derive(Drop)]
+#[derive(Clone, Copy)]
 pub struct Corners3 {
     // c - u - v - w.
     pub p0: Vec3,

@@ -1,5 +1,4 @@
 -- An answer that is the definition's means what specs/Promise.antt says: the law of crates/axes for any search in which a NaN is refused.
--- Assumes nothing.
 use mathlib.Core.Path.{◌≡◌}
 use Rattle.types.specs.declared.answer.Verdict.{Verdict}
 use Rattle.types.specs.declared.shape.Obb3.{Obb3}

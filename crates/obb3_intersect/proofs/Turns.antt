@@ -1,5 +1,5 @@
 -- Axes that come three at a time: the edges of one box, those of the other, then the cross products of each edge of the first with those of the
--- second. What is left after some turns, and that it decides where no axis before ends the search. Assumes nothing.
+-- second. What is left after some turns, and that it decides where no axis before ends the search.
 use mathlib.Core.Path.{◌≡◌, refl, sym, ap, ◌∙◌}
 use mathlib.Core.Bool.{true, false, cond, true≢false}
 use mathlib.Core.List.{List, ◌++◌, map}

@@ -1,4 +1,6 @@
 // Whether two turned boxes of space meet, by fifteen axes: the first that separates their corners, or has a NaN projection, decides.
+#![tactic(auto)]
+
 ghost use Rattle.std.specs.Prelude.{◌≡◌, map};
 ghost use Rattle.vec3.specs.Values.{cross_of};
 ghost use Rattle.obb3_corners.specs.Corners.{corners_of};
@@ -27,6 +29,7 @@ fn corners(o: Obb3) -> [Vec3; 8]
 }
 
 // The edges at length one.
+#[tactic(auto, unfolding(crate::specs::Intersect::units_of))]
 fn units(o: Obb3) -> [Vec3; 3]
     ensures { result ≡ units_of o }
 {

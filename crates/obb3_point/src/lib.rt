@@ -1,4 +1,6 @@
 // Whether a turned box of space includes a point.
+#![tactic(auto)]
+
 ghost use Rattle.std.specs.Prelude.{◌≡◌};
 ghost use Rattle.obb3_point.specs.Point.{beyond_of, is_include_point_of};
 
@@ -6,6 +8,7 @@ use obb3_corners::parts;
 use types::{Obb3, Vec3};
 
 // Whether d, seen along the half edge e, lies past either end of the whole edge, stretched by s. A NaN lies past neither.
+#[tactic(auto, unfolding(crate::specs::Point::beyond_of))]
 fn beyond(d: Vec3, e: Vec3, s: f32) -> bool
     ensures { result ≡ beyond_of d e s }
 {
@@ -13,6 +16,7 @@ fn beyond(d: Vec3, e: Vec3, s: f32) -> bool
 }
 
 // Whether p lies past no end of the edges, stretched by 1 + eps: a NaN counts as inside, as in the Rust.
+#[tactic(auto, unfolding(crate::specs::Point::is_include_point_of))]
 pub fn is_include_point(o: Obb3, p: Vec3, eps: f32) -> bool
     ensures { result ≡ is_include_point_of o p eps }
 {

@@ -1,4 +1,4 @@
--- What stands past the end of a list of points of space. Assumes nothing.
+-- What stands past the end of a list of points of space.
 use lib.Ieee.{nan}
 use Rattle.types.specs.declared.shape.Vec3.{Vec3}
 

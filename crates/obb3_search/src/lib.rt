@@ -1,4 +1,6 @@
 // The search for the first axis that decides whether two boxes of space meet, given by their corners.
+#![tactic(auto)]
+
 ghost use Rattle.std.specs.Prelude.{◌≡◌};
 ghost use Rattle.std.specs.Float.Ieee.{is_nan};
 ghost use Rattle.vec3.specs.Values.{dot_of};
@@ -78,6 +80,7 @@ pub fn verdict(ps: [Vec3; 8], qs: [Vec3; 8], axes: [Vec3; 3]) -> Verdict
 }
 
 // Whether the search is to go on with other axes.
+#[tactic(auto, unfolding(axes::specs::Axes::is_yes_of))]
 pub fn is_yes(v: Verdict) -> bool
     ensures { result ≡ is_yes_of v }
 {

@@ -1,4 +1,4 @@
--- The answer and the list, from what the walk has found. Assumes nothing.
+-- The answer and the list, from what the walk has found.
 use Rattle.std.proofs.Common.{◌≡◌, ℕ, ◌+◌, Bool, true, false, ltb, leb, List, length, sym, refl, ap, ◌∙◌, subst, arith, le-ltb, lt-ltb, leb-false, leb-true}
 use Rattle.types.specs.declared.shape.Vec2.{Vec2}
 use Rattle.types.specs.declared.answer.Listed.{Listed}
@@ -25,8 +25,8 @@ module _ {p q : Vec2} {a b : Axis} (m : Made p q a b) where
   made_drawn v = record {
     wide = v.wide;
     high = v.high;
-    along_x_lem = subst Sized (sym m.a_is) (sized_x v.stroke);
-    along_y_lem = subst Sized (sym m.b_is) (sized_y v.stroke);
+    x_sized = subst Sized (sym m.a_is) (sized_x v.stroke);
+    y_sized = subst Sized (sym m.b_is) (sized_y v.stroke);
   }
 
   made_entries : (c : Bool) (w h : ℕ) → entries c w h a b ≡ stroke_of c w h p q
@@ -47,13 +47,13 @@ module _ (c : Bool) (w h : ℕ) (a b : Axis) (k : ℕ) (e : k ≡ exit a b) wher
   entries_length = ap length (sym closed_is) ∙ closed_length c w h a b k
 
   module _ (l : List ℕ) where
-    pub with_room_lem :
+    pub with_room :
         {r : ℕ} {l' : List ℕ} →
         leb (length (entered w h a b k) + one_if_of c) (length l) ≡ true →
         Closed c w h a b k r l l' →
         Listing (entries c w h a b) l (Count r) l'
     unfolding fitted leaves
-    with_room_lem room g =
+    with_room room g =
         let fits = leb-true (length (entered w h a b k) + one_if_of c) (length l) room in
         let t : ltb (length l) (length (entries c w h a b)) ≡ false = le-ltb (length l) (length (entries c w h a b)) (omega (arith, entries_length)) in
         (rw t (ap Count (g.count_is ∙ ap length closed_is)), g.list_is ∙ ap (λ (es : List ℕ). written es l) closed_is)

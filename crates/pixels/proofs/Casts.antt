@@ -1,4 +1,4 @@
--- A coordinate cut to an integer by the test `x < 0.0`. Assumes nothing.
+-- A coordinate cut to an integer by the test `x < 0.0`.
 use Rattle.std.proofs.Common.{◌≡◌, ◌+◌, ◌*◌, ◌/◌, ◌^◌, ◌<◌, ◌≤◌, true, false, T, pos, refl, zero-le, div-lt_iff_lt-mul, mul-one, arith, lt→ltb, ltb-false, ltb-true}
 use lib.Ieee.{Float, nan, inf, fin, up, down, lt, to_unsigned, of_bits}
 use lib.Ieee.Fits.{down_pos}

@@ -1,4 +1,4 @@
--- The positions in the image, counted one after the other. Assumes nothing.
+-- The positions in the image, counted one after the other.
 use Rattle.std.proofs.Common.{◌≡◌, ℕ, ◌+◌, ◌-◌, ◌≤◌, length, sym, ap, ◌∙◌, add-one, arith}
 use Rattle.types.specs.declared.shape.Vec2.{Vec2}
 use Rattle.stroke.specs.declared.axis.Axis.{Axis}

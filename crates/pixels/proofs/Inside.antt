@@ -1,4 +1,4 @@
--- Each entry but the closing one is the number of a pixel of the image. Assumes nothing.
+-- Each entry but the closing one is the number of a pixel of the image.
 use Rattle.std.proofs.Common.{◌≡◌, ℕ, zero, suc, ◌+◌, ◌*◌, ◌/◌, ◌^◌, ◌<◌, ◌≤◌, Bool, true, false, List, [], ◌∷◌, ◌++◌, map, length, get_or, drop, pos, sym, refl, ◌∙◌, subst, mul-le-mul_right, suc-mul, mul_comm, div-lt_iff_lt-mul, lt_of_mul-lt-mul_right, zero-mul, arith}
 use lib.ListN.{get_or-append}
 use lib.Ieee.{Float, nan, inf, fin, binary32, up, down, lt, le, of_int, to_unsigned}

@@ -1,4 +1,4 @@
--- The entries of a walk's first positions, and how one position more adds to them. Assumes nothing.
+-- The entries of a walk's first positions, and how one position more adds to them.
 use Rattle.std.proofs.Common.{◌≡◌, ℕ, zero, suc, ◌+◌, ◌≤◌, Bool, true, false, List, [], ◌∷◌, ◌++◌, map, length, sym, refl, ap, ◌∙◌, subst, arith, length-append}
 use mathlib.Core.List.{map-append}
 use Rattle.types.specs.declared.shape.Vec2.{Vec2}

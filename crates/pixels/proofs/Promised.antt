@@ -1,4 +1,4 @@
--- The promise at each way to return: two kinds of refusal, and the walk's answer. Assumes nothing.
+-- The promise at each way to return: two kinds of refusal, and the walk's answer.
 use Rattle.std.proofs.Common.{◌≡◌, ℕ, ◌*◌, ◌<◌, ◌≤◌, Bool, List, length, get_or, sym, refl, ap, ◌∙◌, subst, arith}
 use Rattle.types.specs.declared.shape.Vec2.{Vec2}
 use Rattle.types.specs.declared.answer.Listed.{Listed}

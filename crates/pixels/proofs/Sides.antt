@@ -1,4 +1,4 @@
--- A stroke makes one entry at most for each column of the image, or for each row, and the closing one. Assumes nothing.
+-- A stroke makes one entry at most for each column of the image, or for each row, and the closing one.
 use Rattle.std.proofs.Common.{◌≡◌, ℕ, ◌≤◌, max, Bool, true, length, pos, ap, inl, inr, arith}
 use lib.Ieee.{binary32, of_int}
 use Rattle.types.specs.declared.shape.Vec2.{Vec2}

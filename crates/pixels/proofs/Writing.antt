@@ -1,4 +1,4 @@
--- The entries, written one after the other, and the closing one. Assumes nothing.
+-- The entries, written one after the other, and the closing one.
 use Rattle.std.proofs.Common.{◌≡◌, ℕ, suc, ◌+◌, ◌-◌, ◌<◌, ◌≤◌, Bool, true, false, List, [], ◌∷◌, ◌++◌, length, drop, set, sym, refl, ap, ◌∙◌, subst, append-nil, add-zero, add-one, arith, length-append, length-drop}
 use Rattle.types.specs.declared.shape.Vec2.{Vec2}
 use Rattle.stroke.specs.declared.axis.Axis.{Axis}
@@ -22,8 +22,8 @@ at_bounded {a} s k m = size_wider (65536 + k) 196610 (at a k) (omega arith) (at_
 
 pub position_bounded : {w h : ℕ} {a b : Axis} → Drawn w h a b → (k : ℕ) → k ≤ most_steps → (p : Vec2) → p ≡ position a b k → Bounded p
 position_bounded {a = a} {b} d k m p e = record {
-  x_size = subst (λ (q : Vec2). Size 196610 q.x) (sym e) (at_bounded d.along_x_lem k m);
-  y_size = subst (λ (q : Vec2). Size 196610 q.y) (sym e) (at_bounded d.along_y_lem k m);
+  x_size = subst (λ (q : Vec2). Size 196610 q.x) (sym e) (at_bounded d.x_sized k m);
+  y_size = subst (λ (q : Vec2). Size 196610 q.y) (sym e) (at_bounded d.y_sized k m);
 }
 
 -- k is at most `steps`, and n entries of the positions before k stand in `list`, which was l
@@ -101,11 +101,6 @@ pub closed_length : (c : Bool) (w h : ℕ) (a b : Axis) (k : ℕ) → length (cl
 closed_length c w h a b k =
     length-append (entered w h a b k) (keep_if c (number w (position a b k)) [])
     ∙ ap (λ (i : ℕ). length (entered w h a b k) + i) (keep_length c (number w (position a b k)))
-
-pub not_closing : {w h : ℕ} {a b : Axis} {k : ℕ} {r : Reached} {l list : List ℕ} → Entered w h a b k r l list → Closed false w h a b k r.count l list
-not_closing {w} {h} {a} {b} {k} {r} {l} g =
-    let e = sym (append-nil (entered w h a b k)) in
-    record { count_is = g.count_is ∙ ap length e; list_is = g.list_is ∙ ap (λ (es : List ℕ). written es l) e }
 
 pub closing :
     {w h : ℕ} {a b : Axis} {k : ℕ} {r : Reached} {l list : List ℕ} →

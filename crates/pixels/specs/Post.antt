@@ -18,8 +18,8 @@ use Rattle.pixels.specs.Entries.{number, keep_if, pixels}
 pub record Drawn (w h : ℕ) (a b : Axis) : Type 0 where
   pub wide : w ≤ 16384
   pub high : h ≤ 16384
-  pub along_x_lem : Sized a
-  pub along_y_lem : Sized b
+  pub x_sized : Sized a
+  pub y_sized : Sized b
 
 -- a position of an accepted walk: 65,536 and 131,074 steps of one at most
 pub record Bounded (p : Vec2) : Type 0 where

@@ -1,4 +1,6 @@
 // The pixels that a stroke passes, by a walk from its first end in steps of at most one pixel.
+#![tactic(auto, unfolding(crate::specs::Entries::number, stroke::specs::Steps::steps_on_of))]
+
 mod image;
 mod measure;
 mod walk;

@@ -1,4 +1,6 @@
 // Ranges of numbers: the gap between two, and the length that they share.
+#![tactic(auto, unfolding(crate::specs::Values::distance_to_range_of, crate::specs::Values::intersection_length_of))]
+
 ghost use Rattle.std.specs.Prelude.{◌≡◌};
 ghost use Rattle.range.specs.Values.{unordered_of, distance_to_range_of, intersection_length_of};
 

@@ -1,4 +1,4 @@
--- The report on the example files, by computation. Assumes nothing.
+-- The report on the example files, by computation.
 use mathlib.Core.Path.{refl}
 use lib.Ieee.{of_bits, to_bits, sub, div, neg, lt, le, eq, ne, is_nan}
 use Rattle.float.specs.Values.{min_of, max_of}

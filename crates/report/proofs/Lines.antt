@@ -1,4 +1,4 @@
--- The lines, one after the other, each from its record in the bytes. Assumes nothing.
+-- The lines, one after the other, each from its record in the bytes.
 use mathlib.Core.Path.{◌≡◌, sym, ap, ◌∙◌}
 use mathlib.Core.List.{List, ◌++◌, map}
 use Prim.Native.Nat.{ℕ, ◌+◌, ◌*◌, ◌<◌}

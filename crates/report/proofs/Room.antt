@@ -1,4 +1,4 @@
--- How long a report is, and what the list and the count are after it. Assumes nothing.
+-- How long a report is, and what the list and the count are after it.
 use mathlib.Core.Path.{◌≡◌, refl, sym, ap, ◌∙◌}
 use mathlib.Core.List.{List, ◌++◌, map}
 use Prim.Native.Nat.{ℕ, zero, suc, ◌+◌, ◌*◌, ◌<◌, ◌≤◌}

@@ -1,4 +1,6 @@
 // The report on a hatch list, as text: each record clipped as a line, or the number of a refusal and its byte.
+#![tactic(auto)]
+
 ghost use Rattle.std.specs.Prelude.{◌≡◌, map, ◌≤◌, length, take};
 ghost use Rattle.lists.specs.Lent.{written};
 ghost use Rattle.hatch_format.specs.Decode.{float_of, patterns_of, Holds};
@@ -17,6 +19,7 @@ fn put_field(out: &mut [u8], at: usize, n: usize) -> usize
 }
 
 // The bits of a float, and 0 for any zero.
+#[tactic(auto, unfolding(crate::specs::Report::shown))]
 fn shown_bits(x: f32) -> u32
     ensures { result ≡ shown x }
 {

@@ -1,5 +1,5 @@
 -- The root of a float by its bits where it is not both finite and above zero: of the zeros, of +infinity, of a NaN, and below zero; and which
--- bits stand for a float that is both. Assumes nothing.
+-- bits stand for a float that is both.
 use mathlib.Core.Path.{◌≡◌, refl, sym}
 use mathlib.Core.Logic.{◌⊎◌, inl, inr}
 use mathlib.Core.Bool.{Bool, true, false, cond, true≢false}

@@ -1,5 +1,5 @@
 -- The theorem behind the count of `sqrt_digits`: an exact root is whole, is returned as it is, and counts its digits up to the last 1, 12 at
--- most; any other counts 24. Assumes nothing.
+-- most; any other counts 24.
 use mathlib.Core.Path.{◌≡◌, refl, sym, ap, ◌∙◌, subst}
 use mathlib.Core.Bool.{Bool, true, false, cond}
 use Prim.Native.Nat.{ℕ, zero, suc, ◌*◌, ◌<◌}

@@ -1,4 +1,4 @@
--- A fraction whose square is a whole number is whole: the root of a whole number is whole or irrational. Assumes nothing.
+-- A fraction whose square is a whole number is whole: the root of a whole number is whole or irrational.
 -- By descent: from a fraction that is √n and not whole comes another one with a smaller denominator.
 use mathlib.Core.Path.{◌≡◌, sym, ap, ◌∙◌}
 use Prim.Native.Nat.{ℕ, zero, suc, ◌+◌, ◌-◌, ◌*◌, ◌≤◌, ◌<◌}

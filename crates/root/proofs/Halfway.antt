@@ -1,5 +1,5 @@
 -- The point halfway between q and q + 1 steps of u, by its square: on which side of it a root lies, and that the root
--- of a number of at most 24 digits times a power of two is never on it. Assumes nothing.
+-- of a number of at most 24 digits times a power of two is never on it.
 use mathlib.Core.Path.{◌≡◌, sym, ◌∙◌}
 use Prim.Native.Nat.{ℕ, zero, suc, ◌+◌, ◌*◌, ◌%◌, ◌^◌, ◌≤◌, ◌<◌}
 use native.Mathlib.Nat.{mul_comm, mul_assoc, mul_left_comm, mul-pos, pow-succ'}

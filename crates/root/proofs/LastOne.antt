@@ -1,5 +1,5 @@
 -- The binary digits of a whole number up to its last 1: those of its odd part, the number without its factors of two. An exact root of an f32
--- has 12 of them at most. Assumes nothing.
+-- has 12 of them at most.
 use mathlib.Core.Path.{◌≡◌, refl, sym, ap, ◌∙◌, subst}
 use Prim.Native.Nat.{ℕ, zero, suc, ◌+◌, ◌-◌, ◌*◌, ◌/◌, ◌%◌, ◌^◌, ◌≤◌, ◌<◌}
 use native.Mathlib.Nat.{lt_of_lt_of_le, le_of_suc-le-suc}

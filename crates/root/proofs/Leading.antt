@@ -1,4 +1,4 @@
--- The leading 24 digits of a whole root, and how many come after them. Assumes nothing.
+-- The leading 24 digits of a whole root, and how many come after them.
 use mathlib.Core.Path.{◌≡◌}
 use Prim.Native.Nat.{ℕ, ◌+◌, ◌-◌, ◌*◌, ◌^◌, ◌≤◌, ◌<◌}
 use native.Mathlib.Nat.{le_trans, lt_of_le_of_lt, lt_of_lt_of_le, lt_of_not-le, not-le_of_lt}

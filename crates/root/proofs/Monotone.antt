@@ -1,4 +1,4 @@
--- The rounded root is monotone: a root that is below another is the root of a smaller number. Assumes nothing.
+-- The rounded root is monotone: a root that is below another is the root of a smaller number.
 use mathlib.Core.Path.{◌≡◌, refl, sym, ap, ◌∙◌}
 use mathlib.Core.Bool.{Bool, true, false, not, true≢false}
 use Prim.Native.Nat.{ℕ, zero, suc, ◌+◌, ◌*◌, ◌^◌, ◌<◌}

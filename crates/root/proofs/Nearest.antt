@@ -1,4 +1,4 @@
--- The theorems behind the contract of `sqrt`: above zero `sqrt_of x` is the f32 nearest to √x, and no other is. Assumes nothing.
+-- The theorems behind the contract of `sqrt`: above zero `sqrt_of x` is the f32 nearest to √x, and no other is.
 use mathlib.Core.Path.{◌≡◌, ap, ◌∙◌}
 use Prim.Native.Nat.{ℕ}
 use lib.Dec.{T}

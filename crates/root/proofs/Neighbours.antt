@@ -1,4 +1,4 @@
--- From 2 ^ (23 + k) units up the f32s are multiples of 2 ^ k, so none lies between two in a row. Assumes nothing.
+-- From 2 ^ (23 + k) units up the f32s are multiples of 2 ^ k, so none lies between two in a row.
 use mathlib.Core.Path.{◌≡◌, sym, ◌∙◌}
 use Prim.Native.Nat.{ℕ, suc, ◌+◌, ◌-◌, ◌*◌, ◌^◌, ◌≤◌, ◌<◌}
 use native.Mathlib.Nat.{le_of_eq, le_of_lt, le_trans, lt_of_lt_of_le, lt_of_le_of_lt, lt_of_not-le, not-le_of_lt}

@@ -1,4 +1,4 @@
--- The bits of a rounded root: k * 2 ^ 23 + q stands for q * 2 ^ k units, where q has 24 digits. Assumes nothing.
+-- The bits of a rounded root: k * 2 ^ 23 + q stands for q * 2 ^ k units, where q has 24 digits.
 use mathlib.Core.Path.{◌≡◌, sym, ap, ◌∙◌}
 use mathlib.Core.Bool.{false}
 use Prim.Native.Nat.{ℕ, ◌+◌, ◌-◌, ◌*◌, ◌/◌, ◌%◌, ◌^◌, ◌≤◌, ◌<◌}

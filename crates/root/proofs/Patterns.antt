@@ -1,4 +1,4 @@
--- What a bit pattern stands for: its sign, and if finite its units, by exponent's field and fraction. Assumes nothing.
+-- What a bit pattern stands for: its sign, and if finite its units, by exponent's field and fraction.
 use mathlib.Core.Path.{◌≡◌, sym}
 use mathlib.Core.Bool.{true, false, not}
 use Prim.Native.Nat.{ℕ, zero, suc, ◌+◌, ◌*◌, ◌/◌, ◌%◌, ◌^◌, ◌≤◌, ◌<◌}

@@ -1,4 +1,4 @@
--- The radicand of a positive f32: its range, and that it has at most 24 digits before its zeros. Assumes nothing.
+-- The radicand of a positive f32: its range, and that it has at most 24 digits before its zeros.
 use mathlib.Core.Path.{ap, ◌∙◌}
 use mathlib.Core.Bool.{true, false}
 use Prim.Native.Nat.{ℕ, zero, suc, ◌+◌, ◌*◌, ◌^◌, ◌≤◌, ◌<◌}

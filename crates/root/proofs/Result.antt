@@ -1,4 +1,4 @@
--- `nearest_root n` as a float: its units are nearest to √n, it is positive, and it is an f32. Assumes nothing.
+-- `nearest_root n` as a float: its units are nearest to √n, it is positive, and it is an f32.
 use mathlib.Core.Path.{◌≡◌, ap, ◌∙◌}
 use mathlib.Core.Bool.{Bool, true, false, not, cond}
 use Prim.Native.Nat.{ℕ, ◌+◌, ◌*◌, ◌^◌, ◌≤◌, ◌<◌}

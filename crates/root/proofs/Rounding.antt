@@ -1,4 +1,4 @@
--- The root of n * 2 ^ 23 rounded, by its whole root q: up where the square of q leaves more than q. Assumes nothing.
+-- The root of n * 2 ^ 23 rounded, by its whole root q: up where the square of q leaves more than q.
 use mathlib.Core.Path.{◌≡◌}
 use mathlib.Core.Bool.{true, false}
 use Prim.Native.Nat.{ℕ, ◌+◌, ◌-◌, ◌*◌, ◌^◌, ◌≤◌, ◌<◌}

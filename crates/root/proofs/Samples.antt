@@ -1,5 +1,4 @@
 -- Numbers by their bits, each with the bits of its square root and how many digits are worked: antt computes both from the definitions.
--- Assumes nothing.
 use mathlib.Core.Path.{◌≡◌, refl}
 use mathlib.Core.List.{List, [], ◌∷◌, map}
 use Prim.Native.Nat.{ℕ}

@@ -1,4 +1,4 @@
--- A significand doubled and its exponent lowered by one: the value stays, and the exponent stays high. Assumes nothing.
+-- A significand doubled and its exponent lowered by one: the value stays, and the exponent stays high.
 use mathlib.Core.Path.{◌≡◌}
 use Prim.Native.Nat.{ℕ, zero, suc, ◌+◌, ◌-◌, ◌*◌, ◌^◌, ◌≤◌, ◌<◌}
 use native.Mathlib.Nat.{lt_of_lt_of_le, lt_of_not-le, not-le_of_lt, mul_assoc, one-mul, pow-succ'}

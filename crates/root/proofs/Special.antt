@@ -1,4 +1,4 @@
--- The root of a NaN, of the infinities, of the zeros, and of what is below zero. Assumes nothing.
+-- The root of a NaN, of the infinities, of the zeros, and of what is below zero.
 use mathlib.Core.Path.{◌≡◌, refl, sym, subst}
 use mathlib.Core.Bool.{Bool, true, false}
 use Prim.Native.Nat.{ℕ, zero, suc, ◌*◌, ◌+◌}

@@ -1,4 +1,4 @@
--- One turn of the digit loop, on plain numbers. Assumes nothing.
+-- One turn of the digit loop, on plain numbers.
 -- At the digit of weight `bit`, `root` has the digits above it, and rest * bit is what its square leaves of n.
 use mathlib.Core.Path.{◌≡◌, refl, sym, ap, ◌∙◌, subst}
 use Prim.Native.Nat.{ℕ, zero, suc, ◌+◌, ◌-◌, ◌*◌, ◌/◌, ◌%◌, ◌^◌, ◌≤◌, ◌<◌}

@@ -1,4 +1,4 @@
--- A positive float by its units: its bits, itself, and its root. Assumes nothing.
+-- A positive float by its units: its bits, itself, and its root.
 use mathlib.Core.Path.{◌≡◌, sym, ap, ◌∙◌}
 use mathlib.Core.Bool.{true, false}
 use Prim.Native.Nat.{ℕ, zero, suc, ◌+◌, ◌-◌, ◌*◌, ◌/◌, ◌^◌}

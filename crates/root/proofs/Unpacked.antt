@@ -1,4 +1,4 @@
--- The radicand of a positive bit pattern, by the significand and exponent that the code takes from it. Assumes nothing.
+-- The radicand of a positive bit pattern, by the significand and exponent that the code takes from it.
 use mathlib.Core.Path.{◌≡◌, refl, sym, ◌∙◌}
 use Prim.Native.Nat.{ℕ, zero, suc, ◌+◌, ◌*◌, ◌/◌, ◌%◌, ◌^◌, ◌<◌}
 use native.Mathlib.Nat.{add_comm, mul_assoc, mul-one}

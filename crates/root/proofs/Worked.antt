@@ -1,4 +1,4 @@
--- How many digits were worked, from the turn that ends the loop to the root as a float. Assumes nothing.
+-- How many digits were worked, from the turn that ends the loop to the root as a float.
 use mathlib.Core.Path.{◌≡◌, refl, sym, ap, ◌∙◌}
 use mathlib.Core.Bool.{Bool, true, false, cond}
 use Prim.Native.Nat.{ℕ, zero, suc, ◌+◌, ◌*◌, ◌^◌, ◌≤◌, ◌<◌}

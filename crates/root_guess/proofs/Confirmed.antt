@@ -1,5 +1,5 @@
 -- What confirms a root: q is √(n * 2 ^ 23) rounded where that root lies between the two points halfway to the neighbours of q. Then the float of
--- its bits is the square root. Assumes nothing.
+-- its bits is the square root.
 use mathlib.Core.Path.{◌≡◌, sym, ap, ◌∙◌, subst}
 use Prim.Native.Nat.{ℕ, zero, suc, ◌+◌, ◌-◌, ◌*◌, ◌/◌, ◌%◌, ◌^◌, ◌≤◌, ◌<◌}
 use native.Mathlib.Decide.{dec_le}

@@ -1,4 +1,6 @@
 // The square root of an f32 by a guess that whole numbers confirm: the value that the crate root works digit by digit, in less time.
+#![tactic(auto)]
+
 ghost use Rattle.std.specs.Prelude.{◌≡◌, ◌^◌, ◌<◌};
 ghost use Rattle.std.specs.Float.{binary32};
 ghost use Rattle.std.specs.Float.Ieee.{of_bits};
@@ -16,6 +18,7 @@ fn newton_step(half: f64, y: f64) -> f64 {
 // The number is from 2 ^ 46 up and below 2 ^ 48. As an f64 it has the fraction of the f32 and, in the exponent's field, 1069 or 1070: the one that
 // is odd or even as the f32's field is. A constant less half its pattern is the pattern of a first inverse root, with 4 right digits. Each step
 // doubles them: after three, one guess in 8000 is not the root. The sum with 2 ^ 52 is a whole number, and the guess is its last 32 digits.
+#[tactic(auto, using(crate::proofs::Numbers::not_nan_bits64, float::proofs::Tests::not_nan))]
 fn guess(bits: u32) -> usize
     ensures { result < 2 ^ 32 }
 {
@@ -66,6 +69,7 @@ fn root_bits(bits: u32) -> u32
 
 // The square root, as `root::sqrt` gives it: a guess by Newton's method, taken where whole-number squares confirm it. Where they do not, and where
 // the number is not a normal one above zero, the root's digits are worked.
+#[tactic(auto, using(root::proofs::Patterns::not_nan_bits))]
 pub fn sqrt(x: f32) -> f32
     ensures { result ≡ sqrt_of x }
 {

@@ -1,4 +1,4 @@
--- The rounded difference of two unlike f32 is not zero: the exact one is at least 2 ^ -149, and so is what it rounds to. Assumes nothing.
+-- The rounded difference of two unlike f32 is not zero: the exact one is at least 2 ^ -149, and so is what it rounds to.
 use mathlib.Core.Path.{◌≡◌, refl, sym, ap, ◌∙◌, subst}
 use mathlib.Core.Bool.{Bool, true, false, not, ◌&&◌, ◌||◌, cond, beq, true≢false}
 use mathlib.Core.Logic.{◌⊎◌, inl, inr}

@@ -1,8 +1,8 @@
 -- How many whole places lie between a number and a limit above it, and how a rounded step of one down leaves them. A step from a number of at
--- least one is exact. Assumes nothing.
+-- least one is exact.
 use mathlib.Core.Path.{◌≡◌, refl, sym, ap, ◌∙◌}
 use mathlib.Core.Bool.{Bool, true, false, ◌&&◌, ◌||◌, cond, true≢false}
-use Prim.Native.Nat.{ℕ, suc, ◌+◌, ◌-◌, ◌*◌, ◌^◌, ◌≤◌, ◌<◌}
+use Prim.Native.Nat.{ℕ, zero, suc, ◌+◌, ◌-◌, ◌*◌, ◌^◌, ◌≤◌, ◌<◌}
 use native.Mathlib.Nat.{lt_of_lt_of_le, lt_irrefl, mul-one, one-mul, zero-mul, mul-pos, mul_comm, mul_assoc, mul_right_comm, mul-le-mul_right, mul-lt-mul_of_pos_right, add-mul, suc-mul, lt_of_mul-lt-mul_right, pow-le-pow_right}
 use native.Mathlib.Decide.{dec_le}
 use native.Mathlib.Omega.{arith}
@@ -104,6 +104,7 @@ after_negative n c m e h l =
     (nonzero_round true (M + D) D (down_pos e) (grown M D (2 ^ 149) (pow_pos 149))))
   where
     grown : (M D U : ℕ) → 0 < U → D ≤ (M + D) * U
+    grown M D zero p = elim p [ ]
     grown M D (suc U) p = omega (arith, mul_comm (M + D) (suc U), suc-mul U (M + D))
 
 after_positive :
@@ -125,8 +126,9 @@ after_positive n c m e f h l g = simp (mul-one, one-mul) (go (ltb (m * up e) (do
         (round_mag true (D - M) D 0 1 (down_pos e) (omega (arith, zero-mul D)) (omega arith) (lit≤ tt))
         (nonzero_round true (D - M) D (down_pos e) (enough (D - M) D (2 ^ 149) (omega arith) (in_units_lem false m e f).fine))
       where
-        enough : (A D U : ℕ) → 0 < A → D ≤ U → D ≤ A * U
-        enough (suc A) D U p h = omega (arith, suc-mul A U)
+        enough : (A B U : ℕ) → 0 < A → B ≤ U → B ≤ A * U
+        enough zero B U p h = elim p [ ]
+        enough (suc A) B U p h = omega (arith, suc-mul A U)
     go false q = left_exact n c M D (round binary32 false (M - D) D) (down_pos e) (ltb-false M D (sym q)) g (exact false false m e (M - D) f h (omega arith))
 
 -- one step down from a place of the side, and from any place

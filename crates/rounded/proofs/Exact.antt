@@ -1,5 +1,5 @@
 -- Sums, differences, products and quotients in which nothing is rounded: with a zero, with one, and of a number and itself. A sum is the same in
--- either order. Assumes nothing.
+-- either order.
 use mathlib.Core.Path.{◌≡◌, refl, sym, ap, ◌∙◌}
 use mathlib.Core.Bool.{Bool, true, false, not, ◌&&◌, cond}
 use Prim.Native.Nat.{ℕ, zero, suc, ◌-◌, ◌*◌, ◌<◌}

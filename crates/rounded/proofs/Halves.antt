@@ -1,5 +1,5 @@
 -- Numbers counted from the base, so that none is negative: a bound on them in halves, and their whole part. What is at most H / 2 is at most
--- a half more once 2 ^ -23 is added and the sum rounded: so is the end of a widened range. Assumes nothing.
+-- a half more once 2 ^ -23 is added and the sum rounded: so is the end of a widened range.
 use mathlib.Core.Path.{◌≡◌, refl, sym}
 use mathlib.Core.Bool.{Bool, true, false, cond, true≢false}
 use Prim.Native.Nat.{ℕ, suc, ◌+◌, ◌-◌, ◌*◌, ◌/◌, ◌^◌, ◌≤◌, ◌<◌}

@@ -1,4 +1,4 @@
--- Which floats are numbers and not a NaN: those of a size, and rounded results. Assumes nothing.
+-- Which floats are numbers and not a NaN: those of a size, and rounded results.
 use mathlib.Core.Path.{◌≡◌, refl, ap, ◌∙◌}
 use mathlib.Core.Bool.{Bool, true, false, not, ◌&&◌, cond, beq}
 use Prim.Native.Nat.{ℕ, suc, ◌+◌, ◌-◌, ◌*◌, ◌^◌, ◌<◌}

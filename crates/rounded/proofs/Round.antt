@@ -1,4 +1,4 @@
--- A fraction between two f32 of one denominator rounds to an f32 between them: so between two whole numbers. Zero rounds to zero. Assumes nothing.
+-- A fraction between two f32 of one denominator rounds to an f32 between them: so between two whole numbers. Zero rounds to zero.
 use mathlib.Core.Path.{◌≡◌, refl, sym, ◌∙◌, subst}
 use mathlib.Core.Bool.{Bool, true, false, ◌&&◌, ◌||◌, true≢false}
 use mathlib.Core.Logic.{◌⊎◌, inl, inr}

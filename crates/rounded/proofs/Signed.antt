@@ -1,4 +1,4 @@
--- The order of fractions of either sign: floats that have them for values are in it, and rounding keeps it. Assumes nothing.
+-- The order of fractions of either sign: floats that have them for values are in it, and rounding keeps it.
 use mathlib.Core.Path.{◌≡◌, refl, sym, ap, ◌∙◌, subst}
 use mathlib.Core.Bool.{Bool, true, false, ◌&&◌, ◌||◌}
 use Prim.Native.Nat.{ℕ, zero, suc, ◌+◌, ◌*◌, ◌<◌, ◌≤◌}

@@ -1,4 +1,4 @@
--- Bounds on the size of a float, and how rounded sums and products keep them. Assumes nothing.
+-- Bounds on the size of a float, and how rounded sums and products keep them.
 use mathlib.Core.Path.{◌≡◌, refl, ap, ◌∙◌}
 use mathlib.Core.Bool.{Bool, true, false, ◌&&◌, cond, beq}
 use Prim.Native.Nat.{ℕ, ◌+◌, ◌-◌, ◌*◌, ◌^◌, ◌≤◌, ◌<◌}

@@ -1,4 +1,4 @@
--- Two differences over the larger of their sizes: both quotients are at most one in size, and one of them is 1 or -1. Assumes nothing.
+-- Two differences over the larger of their sizes: both quotients are at most one in size, and one of them is 1 or -1.
 use mathlib.Core.Path.{◌≡◌, refl, ap, ◌∙◌}
 use mathlib.Core.Bool.{Bool, true, false, cond}
 use mathlib.Core.Logic.{◌⊎◌, inl, inr}

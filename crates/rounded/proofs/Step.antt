@@ -1,5 +1,4 @@
 -- A step of one, rounded to f32, goes past the next whole number: where x is at least j, x + 1 rounded is at least j + 1, and so in the other direction.
--- Assumes nothing.
 use mathlib.Core.Path.{◌≡◌, refl, sym, ap, ◌∙◌, subst}
 use mathlib.Core.Bool.{Bool, true, false, ◌&&◌, cond, true≢false}
 use Prim.Native.Nat.{ℕ, suc, ◌+◌, ◌-◌, ◌*◌, ◌≤◌, ◌<◌}

@@ -1,4 +1,4 @@
--- A whole number taken from an f32, over the denominator of the f32. Assumes nothing.
+-- A whole number taken from an f32, over the denominator of the f32.
 use mathlib.Core.Path.{◌≡◌, sym, ap, ◌∙◌}
 use mathlib.Core.Bool.{Bool, true, false, ◌&&◌, cond, beq, true≢false}
 use Prim.Native.Nat.{ℕ, ◌+◌, ◌-◌, ◌*◌, ◌<◌}

@@ -1,5 +1,5 @@
 -- The whole numbers around a size, and that an f32 holds each exactly. Sizes are compared over whole numbers:
--- n against m * 2 ^ e is n * down e against m * up e. Assumes nothing.
+-- n against m * 2 ^ e is n * down e against m * up e.
 use Rattle.std.proofs.Common.{◌≡◌, ℕ, zero, suc, ◌+◌, ◌-◌, ◌*◌, ◌^◌, ◌≤◌, Bool, T, ℤ, pos, negsuc, sym, refl, ◌∙◌, subst, le_trans, add-zero, div-lt_iff_lt-mul, add-mul, le-div_iff_mul-le, div-le_self, div-mul-le_self, div-one, arith, pow_pos}
 use native.Mathlib.Nat.{div-le_of_le-mul, lt-div-mul-add}
 use lib.Ieee.{Float, fin, binary32, up, down, fits}

@@ -1,4 +1,4 @@
--- Whole numbers with a sign: their order when negated, and their sizes. Assumes nothing.
+-- Whole numbers with a sign: their order when negated, and their sizes.
 use Rattle.std.proofs.Common.{◌≡◌, ℕ, zero, suc, ◌*◌, ◌<◌, ◌≤◌, Bool, true, false, T, ℤ, pos, negsuc, ◌*ℤ◌, neg_ℤ, sym, refl, ap, ◌∙◌, mul-pos, zero-mul, arith, le→leb, leb→le}
 use lib.Signed.{le_z}
 use Rattle.float.specs.Units.{signed}

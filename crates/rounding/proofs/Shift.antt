@@ -1,4 +1,4 @@
--- The whole part of a number from 1 up to 2 ^ 24, from its bits: its 24 digits, less those behind the point. Assumes nothing.
+-- The whole part of a number from 1 up to 2 ^ 24, from its bits: its 24 digits, less those behind the point.
 use Rattle.std.proofs.Common.{◌≡◌, ℕ, zero, suc, ◌+◌, ◌-◌, ◌*◌, ◌/◌, ◌%◌, ◌^◌, ◌<◌, ◌≤◌, Bool, true, false, cond, not, T, eqb, leb, ℤ, sym, ap, ◌∙◌, subst, inl, inr, le_trans, le_of_eq, lt_of_lt_of_le, le-add_right, lt_of_le_of_lt, mul-le-mul_right, mod-eq_of_lt, mul_comm, add_comm, lt_of_mul-lt-mul_right, eq-or-lt_of_le, mul-lt-mul_of_pos_right, mul_right_comm, le_of_mul-le-mul_right, arith, lit≤, pow_pos, pow-add, shl_lt, shr-shr, leb-false}
 use lib.Pow.{shl-shr}
 use lib.Ieee.{Float, nan, inf, fin, binary32, up, down, of_fields, of_bits, to_bits, fits, is_nan, le, lt, to_unsigned}

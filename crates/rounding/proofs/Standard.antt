@@ -1,4 +1,4 @@
--- `floor_of` and `ceil_of` are IEEE 754's roundToIntegralTowardNegative and TowardPositive, and nothing else is. Assumes nothing.
+-- `floor_of` and `ceil_of` are IEEE 754's roundToIntegralTowardNegative and TowardPositive, and nothing else is.
 use Rattle.std.proofs.Common.{◌≡◌, ℕ, zero, suc, ◌*◌, ◌≤◌, Bool, true, false, not, T, ℤ, pos, negsuc, ◌*ℤ◌, neg_ℤ, sym, refl, ap, ◌∙◌, subst, mul-one, arith, le→leb, leb→le}
 use lib.Signed.{le_z}
 use lib.Ieee.{Float, nan, inf, fin, binary32, up, down, neg, fits}

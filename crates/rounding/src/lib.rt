@@ -1,4 +1,6 @@
 // Rounding to whole numbers: floor and ceiling as floats, and Rust's `as` to integers.
+#![tactic(auto)]
+
 ghost use Rattle.std.specs.Prelude.{◌≡◌, true, false, pos};
 ghost use Rattle.std.specs.Float.{fin};
 ghost use Rattle.std.specs.Float.Ieee.{le, lt, to_signed, to_unsigned};

@@ -1,4 +1,4 @@
--- The two axes of an accepted stroke, and that its walk leaves the ranges of its ends by itself. Assumes nothing.
+-- The two axes of an accepted stroke, and that its walk leaves the ranges of its ends by itself.
 use mathlib.Core.Path.{◌≡◌}
 use mathlib.Core.Bool.{false, ◌||◌}
 use mathlib.Core.Logic.{◌⊎◌, inl, inr}

@@ -1,5 +1,5 @@
 -- How often a walk is on a side of the image: no more often than the side is long. Along an axis with steps of 1 or -1 no two positions share a
--- whole part: upwards a rounded step goes past the next whole number, and downwards it is exact. Assumes nothing.
+-- whole part: upwards a rounded step goes past the next whole number, and downwards it is exact.
 use mathlib.Core.Path.{◌≡◌, refl, sym, ap, subst}
 use mathlib.Core.Bool.{Bool, true, false}
 use mathlib.Core.Logic.{◌⊎◌, inl, inr}

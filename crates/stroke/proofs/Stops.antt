@@ -1,4 +1,4 @@
--- A walk that is outside its ranges after the most steps has left them by itself. Assumes nothing.
+-- A walk that is outside its ranges after the most steps has left them by itself.
 use mathlib.Core.Path.{◌≡◌, refl, sym, ap, ◌∙◌, subst}
 use mathlib.Core.Bool.{Bool, true, false}
 use mathlib.Core.Logic.{inl, inr}

@@ -1,4 +1,4 @@
--- The walk to where it leaves its ranges, turn by turn. Assumes nothing.
+-- The walk to where it leaves its ranges, turn by turn.
 use mathlib.Core.Path.{◌≡◌, refl, sym, ap, ◌∙◌}
 use mathlib.Core.Bool.{Bool, true, false, ◌&&◌, true≢false}
 use Prim.Native.Nat.{ℕ, suc, ◌+◌, ◌-◌, ◌≤◌, ◌<◌}

@@ -6,7 +6,7 @@ ghost use Rattle.stroke.specs.Steps.{first, next};
 use types::Vec2;
 
 // Where the coordinate starts, how far it goes in a step, and the range within which the walk goes on.
-#[derive(Drop)]
+#[derive(Clone, Copy)]
 pub struct Axis {
     pub start: f32,
     pub slope: f32,

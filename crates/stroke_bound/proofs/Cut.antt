@@ -1,4 +1,4 @@
--- The whole part of a rounded difference is the exact difference rounded up, or one less. Assumes nothing.
+-- The whole part of a rounded difference is the exact difference rounded up, or one less.
 use mathlib.Core.Path.{◌≡◌, refl, sym, subst}
 use mathlib.Core.Bool.{Bool, true, false, not, ◌&&◌, cond, true≢false}
 use Prim.Native.Nat.{ℕ, zero, suc, ◌+◌, ◌-◌, ◌*◌, ◌/◌, ◌^◌, ◌≤◌, ◌<◌}

@@ -1,5 +1,4 @@
 -- Two numbers whose exact difference is at most D: where one is at most H / 2, the other is at most D more, and where D is 0 they are equal.
--- Assumes nothing.
 use mathlib.Core.Path.{◌≡◌, refl}
 use mathlib.Core.Bool.{Bool, true, false}
 use Prim.Native.Nat.{ℕ, ◌+◌, ◌*◌, ◌^◌, ◌≤◌, ◌<◌}

@@ -1,5 +1,5 @@
 -- The higher of two numbers less a whole number, as a float, is above the lower one only where it is so exactly, and always there if the
--- higher number is the larger one in size. Assumes nothing.
+-- higher number is the larger one in size.
 use mathlib.Core.Path.{◌≡◌, refl, ap, ◌∙◌}
 use mathlib.Core.Bool.{Bool, true, false, cond}
 use Prim.Native.Nat.{ℕ, ◌+◌, ◌-◌, ◌*◌, ◌≤◌, ◌<◌}

@@ -1,5 +1,5 @@
 -- A walk has at most D + 2 positions, D being the exact larger difference of its ends, rounded up to a whole number. After k steps it is at least k
--- past the whole part of its start, and the range ends at most D + 1 and a half past it. Assumes nothing.
+-- past the whole part of its start, and the range ends at most D + 1 and a half past it.
 use mathlib.Core.Path.{◌≡◌, sym, ◌∙◌}
 use mathlib.Core.Bool.{Bool, true, false, ◌||◌, true≢false}
 use mathlib.Core.Logic.{inl, inr}

@@ -1,4 +1,4 @@
--- The exact difference of two f32, rounded up, by the whole part of the rounded one and two tests. Assumes nothing.
+-- The exact difference of two f32, rounded up, by the whole part of the rounded one and two tests.
 use mathlib.Core.Path.{◌≡◌, refl, sym, ap, ◌∙◌, subst}
 use mathlib.Core.Bool.{Bool, true, false, not, ◌||◌, cond}
 use Prim.Native.Nat.{ℕ, ◌+◌, ◌*◌, ◌^◌, ◌≤◌, ◌<◌}

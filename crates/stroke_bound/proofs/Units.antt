@@ -1,4 +1,4 @@
--- The exact difference of two f32, in units and over the denominators of the two. Assumes nothing.
+-- The exact difference of two f32, in units and over the denominators of the two.
 use mathlib.Core.Path.{◌≡◌, refl, sym, ap, ◌∙◌}
 use mathlib.Core.Bool.{Bool, true, false, cond}
 use Prim.Native.Nat.{ℕ, zero, suc, ◌+◌, ◌-◌, ◌*◌, ◌^◌}

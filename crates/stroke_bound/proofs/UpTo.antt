@@ -1,7 +1,7 @@
--- A quotient rounded up is the least whole number that the exact one does not pass. Assumes nothing.
+-- A quotient rounded up is the least whole number that the exact one does not pass.
 use mathlib.Core.Path.{◌≡◌, refl, sym}
 use mathlib.Core.Bool.{Bool, true, false, cond}
-use Prim.Native.Nat.{ℕ, suc, ◌+◌, ◌*◌, ◌≤◌, ◌<◌, max}
+use Prim.Native.Nat.{ℕ, suc, ◌+◌, ◌*◌, ◌≤◌, ◌<◌}
 use native.Mathlib.Nat.{le_trans, le_of_eq, le_antisymm, suc-mul, mul_right_comm, mul-le-mul_right, le_of_mul-le-mul_right, div-lt_iff_lt-mul}
 use native.Mathlib.Omega.{arith}
 use native.Mathlib.Decide.{dec_le}
@@ -39,14 +39,3 @@ up_to_either u n k p a b = go (ltb (k * u) n) refl
       | yes h ↦ let l : up_to u n * u ≤ k * u = mul-le-mul_right u h in absurd (omega (arith, l, up_to_over u n p, ltb-true (k * u) n e))
       | no h ↦ omega arith
     ]
-
--- ---- the larger of two
-
-up_to_mono : (u a b : ℕ) → 0 < u → a ≤ b → up_to u a ≤ up_to u b
-up_to_mono u a b p h = up_to_least u a (up_to u b) p (le_trans h (up_to_over u b p))
-
-pub up_to_max : (u a b : ℕ) → 0 < u → up_to u (max a b) ≡ max (up_to u a) (up_to u b)
-up_to_max u a b p = elim (dec_le a b) [
-  | yes h ↦ let e : max a b ≡ b = omega arith in rw e (omega (arith, up_to_mono u a b p h))
-  | no h ↦ let e : max a b ≡ a = omega arith in rw e (omega (arith, up_to_mono u b a p (omega arith)))
-]

@@ -1,4 +1,4 @@
--- What the tests say of a stroke's ends where none of them refuses it. Assumes nothing.
+-- What the tests say of a stroke's ends where none of them refuses it.
 use mathlib.Core.Path.{◌≡◌, refl, sym, ◌∙◌, subst}
 use mathlib.Core.Bool.{Bool, true, false, ◌&&◌, cond, true≢false}
 use mathlib.Core.Logic.{◌⊎◌, inl, inr}

@@ -1,4 +1,4 @@
--- Coordinates looked at one after the other: what is left to look at after the first i. Assumes nothing.
+-- Coordinates looked at one after the other: what is left to look at after the first i.
 use mathlib.Core.Path.{◌≡◌, refl, sym, ◌∙◌}
 use mathlib.Core.Bool.{true, false, cond}
 use mathlib.Core.List.{List}

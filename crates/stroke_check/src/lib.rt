@@ -1,18 +1,20 @@
 // What is tested of a stroke before it is walked, and of its coordinates before its ink is measured.
+#![tactic(auto, unfolding(crate::specs::Check::sides_too_large_of, crate::specs::Check::within_limit_of, crate::specs::Check::number_of, crate::specs::Check::same_ends_of, crate::specs::Check::unless_offender, crate::specs::Check::accept_of))]
+
 ghost use Rattle.std.specs.Prelude.{◌≡◌};
 ghost use Rattle.stroke_check.specs.Check.{sides_too_large_of, within_limit_of, number_of, first_offender_of, same_ends_of, accept_of};
 
 use types::Vec2;
 
 // A coordinate that is refused, by the number of its refusal and its place in a list; or that there is none.
-#[derive(Drop)]
+#[derive(Clone, Copy)]
 pub enum Offender {
     None,
     Found { number: u32, place: usize },
 }
 
 // Whether a stroke is walked, or the number of its refusal, with the place of the coordinate where one offends.
-#[derive(Drop)]
+#[derive(Clone, Copy)]
 pub enum Acceptance {
     Accepted,
     Refused(u32),

@@ -1,4 +1,4 @@
--- Floats that are at most or at least a limit, and how the minimum and the maximum keep them so. Assumes nothing.
+-- Floats that are at most or at least a limit, and how the minimum and the maximum keep them so.
 use mathlib.Core.Path.{◌≡◌, refl, sym, ap, ◌∙◌}
 use mathlib.Core.Bool.{Bool, true, false, ◌||◌, true≢false}
 use Prim.Native.Nat.{◌+◌, ◌*◌}

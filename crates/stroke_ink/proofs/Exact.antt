@@ -1,4 +1,4 @@
--- The length over an interval that spans 0 to 1 is the stroke's own, and over one with nothing between 0 and 1 it is 0. Assumes nothing.
+-- The length over an interval that spans 0 to 1 is the stroke's own, and over one with nothing between 0 and 1 it is 0.
 use mathlib.Core.Path.{◌≡◌, refl}
 use mathlib.Core.Bool.{Bool, true, false, cond}
 use mathlib.Core.Logic.{inl, inr}

@@ -1,5 +1,5 @@
 -- The laws of what a stroke draws in a box: it is a length, the stroke's own with both ends inside, and none where the line misses the box, where
--- both ends lie beyond one edge of it, and where the ends are equal. Assumes nothing.
+-- both ends lie beyond one edge of it, and where the ends are equal.
 use mathlib.Core.Path.{◌≡◌, refl, ◌∙◌}
 use mathlib.Core.Bool.{Bool, true, false, ◌&&◌, ◌||◌, cond}
 use mathlib.Core.Logic.{◌⊎◌, inl, inr}
@@ -14,8 +14,8 @@ use Rattle.float.specs.Rounded.{◌⊖◌, +0, one}
 use Rattle.float.proofs.Order.{lt_not, lt_one_way}
 use Rattle.float.proofs.Tests.{either, or_true}
 use Rattle.edge2_measure.specs.Measure.{length_of}
-use Rattle.slab.specs.declared.Slab.{Slab}
-use Rattle.slab.specs.Clip.{largest, lowest, all_finite_of, narrowed_of, narrow_all, ordered_of, clip_over}
+use Rattle.slabs.specs.declared.Slab.{Slab}
+use Rattle.slabs.specs.Clip.{largest, lowest, all_finite_of, narrowed_of, narrow_all, ordered_of, clip_over}
 use Rattle.aabb.specs.Clip.{intersections_against_line_of}
 use Rattle.aabb.specs.Inside.{is_include_point_of}
 use Rattle.rounded.proofs.Down.{both}

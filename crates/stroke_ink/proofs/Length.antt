@@ -1,5 +1,5 @@
 -- The length over a bounded interval is finite and not below zero: positions between 0 and 1 are at most 196,608 in size, so the differences
--- are at most 2 ^ 19, their squares 2 ^ 38 and the sum 2 ^ 39. Assumes nothing.
+-- are at most 2 ^ 19, their squares 2 ^ 38 and the sum 2 ^ 39.
 use mathlib.Core.Path.{◌≡◌, refl, sym, subst, ◌∙◌}
 use mathlib.Core.Bool.{Bool, true, false, cond, true≢false}
 use Prim.Native.Nat.{ℕ, zero, suc, ◌+◌, ◌*◌, ◌^◌, ◌≤◌, ◌<◌}

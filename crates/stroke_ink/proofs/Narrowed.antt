@@ -1,5 +1,5 @@
 -- What a slab leaves of an interval, by where the stroke's ends lie to it: an interval from at most 0 to at least 1 stays one where both ends
--- are inside, and where both lie beyond one end of the slab what is left starts at 1 or later, or ends at 0 or earlier. Assumes nothing.
+-- are inside, and where both lie beyond one end of the slab what is left starts at 1 or later, or ends at 0 or earlier.
 use mathlib.Core.Path.{◌≡◌, refl, sym, ◌∙◌}
 use mathlib.Core.Bool.{Bool, true, false, ◌||◌, cond, true≢false}
 use mathlib.Core.Logic.{◌⊎◌, inl, inr}
@@ -13,8 +13,8 @@ use Rattle.types.specs.declared.answer.Interval.{Interval}
 use Rattle.types.specs.declared.answer.Interval.TheVariants.{Miss, Hit}
 use Rattle.float.specs.Rounded.{◌⊖◌, +0, one}
 use Rattle.float.specs.Values.{min_of, max_of}
-use Rattle.slab.specs.declared.Slab.{Slab}
-use Rattle.slab.specs.Clip.{at_low, at_high, narrowed_of}
+use Rattle.slabs.specs.declared.Slab.{Slab}
+use Rattle.slabs.specs.Clip.{at_low, at_high, narrowed_of}
 use Rattle.rounded.specs.Size.{Size}
 use Rattle.stroke_ink.proofs.Ends.{Number, AtMost, AtLeast, min_fits, max_fits, min_number, max_number, min_most_first, min_most_second, max_most, max_least_first, max_least_second, min_least}
 use Rattle.stroke_ink.proofs.Quotients.{before, at_most, at_least}

@@ -1,5 +1,5 @@
 -- The positions at the ratios 0 and 1 are a stroke's ends, to the sign of a zero, and the length between equal points is the same. A position
--- at any ratio from 0 to 1 is finite. Assumes nothing.
+-- at any ratio from 0 to 1 is finite.
 use mathlib.Core.Path.{◌≡◌, ap, ◌∙◌}
 use mathlib.Core.Bool.{Bool, true, false}
 use lib.Dec.{lit≤}

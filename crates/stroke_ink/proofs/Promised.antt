@@ -1,5 +1,4 @@
--- The promise at each way to return: of a refusal there is nothing more to say, and of an answer there are the laws of what is drawn. Assumes
--- nothing.
+-- The promise at each way to return: of a refusal there is nothing more to say, and of an answer there are the laws of what is drawn.
 use mathlib.Core.Path.{◌≡◌, sym, subst, ◌∙◌}
 use mathlib.Core.Bool.{true}
 use Prim.Native.Nat.{ℕ}

@@ -1,5 +1,5 @@
 -- The parameters at which a stroke's line meets a slab's ends, by where these lie to the stroke's own ends: at most 0 where an end of the slab
--- is not past the first end of the stroke, and at least 1 where it is not before the second. Assumes nothing.
+-- is not past the first end of the stroke, and at least 1 where it is not before the second.
 use mathlib.Core.Path.{◌≡◌, refl}
 use mathlib.Core.Bool.{Bool, true, false}
 use Prim.Native.Nat.{ℕ, ◌<◌}

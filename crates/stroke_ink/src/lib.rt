@@ -1,4 +1,6 @@
 // The ink that a pen stroke leaves in an upright box: the length of what it draws there.
+#![tactic(auto)]
+
 ghost use Rattle.std.specs.Prelude.{◌≡◌};
 ghost use Rattle.stroke_ink.specs.Ink.{bounded_of, length_over_of, drawn_of};
 ghost use Rattle.stroke_ink.specs.Promise.{Promise};
@@ -7,19 +9,21 @@ use stroke_check::{Offender, first_offender};
 use types::{Aabb2, Ink, Interval, Vec2};
 
 // What an interval has of the numbers from 0 to 1. A miss stays one.
+#[tactic(auto, unfolding(crate::specs::Ink::bounded_of))]
 fn bounded(i: Interval) -> Interval
     ensures { result ≡ bounded_of i }
 {
     match i {
         Interval::Miss => Interval::Miss,
         Interval::Hit(tmin, tmax) => {
-            slab::ordered(Interval::Hit(float::max(tmin, 0.0), float::min(tmax, 1.0)))
+            slabs::ordered(Interval::Hit(float::max(tmin, 0.0), float::min(tmax, 1.0)))
         }
     }
 }
 
 // The length of the stroke over an interval of ratios, and 0 over none.
 // The root has the value of that in `edge2::length`; guessed and confirmed it takes a fraction of the time.
+#[tactic(auto, unfolding(crate::specs::Ink::length_over_of))]
 fn length_over(p0: Vec2, p1: Vec2, i: Interval) -> f32
     ensures { result ≡ length_over_of p0 p1 i }
 {
@@ -34,6 +38,7 @@ fn length_over(p0: Vec2, p1: Vec2, i: Interval) -> f32
 }
 
 // The length in the box, by the clip of the stroke's line.
+#[tactic(auto, unfolding(crate::specs::Ink::drawn_of))]
 fn drawn(p0: Vec2, p1: Vec2, b: Aabb2) -> f32
     ensures { result ≡ drawn_of p0 p1 b }
 {
@@ -44,6 +49,7 @@ fn drawn(p0: Vec2, p1: Vec2, b: Aabb2) -> f32
 
 // The ink that the stroke from p0 to p1 leaves in the box. A coordinate that offends is refused as in the walk, then a box that is not ordered
 // in x, then in y. Equal ends are not refused.
+#[tactic(auto, using(crate::proofs::Promised::refused, crate::proofs::Promised::refused_at), unfolding(crate::specs::Ink::ink_of, stroke_check::specs::Check::unless_offender))]
 pub fn ink(p0: Vec2, p1: Vec2, b: Aabb2) -> Ink
     ensures { Promise p0 p1 b result }
 {

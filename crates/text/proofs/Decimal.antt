@@ -1,4 +1,4 @@
--- The decimal digits of a number, and how many there are. Assumes nothing.
+-- The decimal digits of a number, and how many there are.
 use mathlib.Core.Path.{◌≡◌, refl, ap, ◌∙◌}
 use mathlib.Core.Bool.{Bool, true, false, cond}
 use mathlib.Core.List.{List, [], ◌∷◌, ◌++◌}

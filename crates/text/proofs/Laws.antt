@@ -1,4 +1,4 @@
--- How texts follow each other on a page, and what a page holds. Assumes nothing.
+-- How texts follow each other on a page, and what a page holds.
 use mathlib.Core.Path.{◌≡◌, refl, sym, ap, ◌∙◌}
 use mathlib.Core.List.{List, [], ◌∷◌, ◌++◌}
 use Prim.Native.Nat.{ℕ, suc, ◌+◌, ◌-◌, ◌<◌, ◌≤◌}

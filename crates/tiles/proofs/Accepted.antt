@@ -1,4 +1,4 @@
--- What a call that is not refused knows of its sheet and its box. Assumes nothing.
+-- What a call that is not refused knows of its sheet and its box.
 use mathlib.Core.Path.{◌≡◌, refl, sym, subst}
 use mathlib.Core.Bool.{Bool, true, false, ◌||◌, true≢false}
 use Prim.Native.Nat.{◌^◌, ◌≤◌}

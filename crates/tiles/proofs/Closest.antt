@@ -1,4 +1,4 @@
--- The whole number closest to a / b, as `round` picks it, is within a half of a / b. Assumes nothing.
+-- The whole number closest to a / b, as `round` picks it, is within a half of a / b.
 use mathlib.Core.Path.{◌≡◌, refl, ap, ◌∙◌, subst}
 use mathlib.Core.Logic.{◌⊎◌, inl, inr}
 use mathlib.Core.Bool.{not}

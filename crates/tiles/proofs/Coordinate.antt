@@ -1,4 +1,4 @@
--- The code's test of a coordinate is the definition's: both say whether x is finite and at most 2 ^ 20 in size. Assumes nothing.
+-- The code's test of a coordinate is the definition's: both say whether x is finite and at most 2 ^ 20 in size.
 use mathlib.Core.Path.{◌≡◌, refl, sym, ap, ◌∙◌, subst}
 use mathlib.Core.Logic.{inl, inr}
 use mathlib.Core.Bool.{true, false, not, ◌&&◌, ◌||◌}

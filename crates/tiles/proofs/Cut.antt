@@ -1,4 +1,4 @@
--- What the code's test against 0 and its cast give of a value of at most 2 ^ 20 in size: the place after its floor. Assumes nothing.
+-- What the code's test against 0 and its cast give of a value of at most 2 ^ 20 in size: the place after its floor.
 use mathlib.Core.Path.{◌≡◌, refl, sym, ap, ◌∙◌}
 use mathlib.Core.Bool.{Bool, true, false}
 use Prim.Native.Nat.{ℕ, zero, suc, ◌+◌, ◌-◌, ◌*◌, ◌/◌, ◌^◌, ◌≤◌, ◌<◌, min, zero-le}

@@ -1,4 +1,4 @@
--- Demand 3 of the definition's list: it is the smallest set of the sheet's tiles that covers the box. Assumes nothing.
+-- Demand 3 of the definition's list: it is the smallest set of the sheet's tiles that covers the box.
 use mathlib.Core.Path.{◌≡◌, refl, sym, ap, ◌∙◌, subst}
 use Prim.Native.Nat.{ℕ, ◌+◌, ◌*◌}
 use native.Mathlib.Omega.{arith}

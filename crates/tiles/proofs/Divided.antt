@@ -1,4 +1,4 @@
--- A finite f32 divided by a whole number s and rounded has the value that proofs/Quotient.antt speaks of. Assumes nothing.
+-- A finite f32 divided by a whole number s and rounded has the value that proofs/Quotient.antt speaks of.
 use mathlib.Core.Path.{◌≡◌, sym, ap, ◌∙◌, subst}
 use mathlib.Core.Logic.{inl, inr}
 use mathlib.Core.Bool.{Bool, true, false, true≢false}

@@ -1,4 +1,4 @@
--- The premises can be met: demand 3 at the first tile row of document 01, with a lent list of eight entries. Assumes nothing.
+-- The premises can be met: demand 3 at the first tile row of document 01, with a lent list of eight entries.
 use mathlib.Core.Path.{refl}
 use mathlib.Core.Logic.{inr}
 use mathlib.Core.List.{[], ◌∷◌}

@@ -1,4 +1,4 @@
--- THE KEY LEMMA: the floor of the rounded quotient of an f32 by a whole number is the floor of the exact quotient. Assumes nothing.
+-- THE KEY LEMMA: the floor of the rounded quotient of an f32 by a whole number is the floor of the exact quotient.
 use mathlib.Core.Path.{◌≡◌, sym, ap, ◌∙◌, subst}
 use mathlib.Core.Logic.{◌⊎◌, inl, inr}
 use mathlib.Core.Bool.{Bool, true, false}

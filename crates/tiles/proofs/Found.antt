@@ -1,4 +1,4 @@
--- The columns and rows that the code works out, and what it may do with them. Assumes nothing.
+-- The columns and rows that the code works out, and what it may do with them.
 use mathlib.Core.Path.{◌≡◌, refl, sym, ap, ◌∙◌, subst}
 use mathlib.Core.Bool.{false}
 use mathlib.Core.List.{List, [], ◌∷◌, ◌++◌}

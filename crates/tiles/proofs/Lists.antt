@@ -1,11 +1,11 @@
--- Lists into which runs of numbers are written, one after another. Assumes nothing.
+-- Lists into which runs of numbers are written, one after another.
 use mathlib.Core.Path.{◌≡◌, refl, sym, ap, ◌∙◌}
 use mathlib.Core.List.{List, [], ◌∷◌, ◌++◌, append_assoc}
 use Prim.Native.Nat.{ℕ, zero, suc, ◌+◌, ◌*◌, ◌<◌}
 use native.Mathlib.Nat.{add-zero, add-suc, suc-add, suc-mul, zero-mul}
 use native.Mathlib.Numerals.{add-one}
 use native.Mathlib.Omega.{arith}
-use lib.ListN.{length, get_or, take, drop, set, length-append, take-append-drop}
+use lib.ListN.{length, get_or, take, drop, set, length-append}
 use lib.Seq.{drop-cons, set_at, length-take-le, take_at, drop-append-add, drop-drop}
 use Rattle.tiles.specs.Tiles.{run, rows}
 
@@ -23,9 +23,6 @@ run_more a (suc k) l = ap (λ (t : List ℕ). a ∷ t) (rw (add-suc, ← suc-add
 -- l with the run of k numbers from a on, written from entry `at` on
 abbrev pub pasted : List ℕ → ℕ → ℕ → ℕ → List ℕ
 pasted l at a k = take at l ++ (run a k ++ drop (at + k) l)
-
-pub pasted_zero : (l : List ℕ) (at a : ℕ) → l ≡ pasted l at a 0
-pasted_zero l at a = sym (simp (add-zero, take-append-drop))
 
 pub pasted_suc : (l : List ℕ) (at a j : ℕ) → at + j < length l → set (pasted l at a j) (at + j) (a + j) ≡ pasted l at a (j + 1)
 pasted_suc l at a j h =

@@ -1,4 +1,4 @@
--- What stands in the list of tiles: the numbers of its rows and columns. Assumes nothing.
+-- What stands in the list of tiles: the numbers of its rows and columns.
 use mathlib.Core.Path.{◌≡◌, sym, ap}
 use mathlib.Core.Logic.{inl, inr}
 use mathlib.Core.List.Memᴰ

@@ -1,4 +1,4 @@
--- Multiples of a number, and of powers of two: where two differ, they differ by how much at least. Assumes nothing.
+-- Multiples of a number, and of powers of two: where two differ, they differ by how much at least.
 use mathlib.Core.Path.{◌≡◌, ◌∙◌}
 use mathlib.Core.Logic.{◌⊎◌, inl, inr}
 use Prim.Native.Nat.{ℕ, zero, suc, ◌+◌, ◌-◌, ◌*◌, ◌^◌, ◌≤◌, ◌<◌, zero-le, suc-le-suc}

@@ -1,4 +1,4 @@
--- The order of whole numbers below and above zero. Assumes nothing.
+-- The order of whole numbers below and above zero.
 use mathlib.Core.Logic.{◌⊎◌, inl, inr}
 use mathlib.Core.Bool.{Bool, true, false, not}
 use Prim.Native.Nat.{ℕ, ◌≤◌, ◌<◌}

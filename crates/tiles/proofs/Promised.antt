@@ -1,4 +1,4 @@
--- The promise at each way to return: three refusals, and the list. Assumes nothing.
+-- The promise at each way to return: three refusals, and the list.
 use mathlib.Core.Path.{◌≡◌, refl, subst}
 use mathlib.Core.Bool.{true, false}
 use mathlib.Core.List.{List}

@@ -1,5 +1,5 @@
 -- X units of 2 ^ -149 divided by a whole number s and rounded to 24 digits: the result lies on the same side of each whole number as
--- the exact quotient. This page speaks of whole numbers only, and proofs/Floor.antt of floats. Assumes nothing.
+-- the exact quotient. This page speaks of whole numbers only, and proofs/Floor.antt of floats.
 --
 -- The rounded quotient G is a multiple of the step d = 2 ^ drops, and G * s is within h = d * s / 2 of X. Each whole number N is a
 -- multiple of d too. So where N and G differ, N * s and G * s differ by d * s at least, which is more than h. X has at most 24 digits

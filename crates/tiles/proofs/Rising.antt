@@ -1,4 +1,4 @@
--- The list of tiles rises, and a list that has all its numbers is no shorter. Assumes nothing.
+-- The list of tiles rises, and a list that has all its numbers is no shorter.
 use mathlib.Core.Path.{◌≡◌, refl, sym, ap}
 use mathlib.Core.Logic.{inl, inr}
 use mathlib.Core.List.Memᴰ

@@ -1,4 +1,4 @@
--- The Rust's `(x / size as f32).floor() as i32` is the place of the definitions, tiny coordinates included. Assumes nothing.
+-- The Rust's `(x / size as f32).floor() as i32` is the place of the definitions, tiny coordinates included.
 use mathlib.Core.Path.{◌≡◌, refl, sym, ap, ◌∙◌}
 use mathlib.Core.Bool.{Bool, true, false, cond}
 use Prim.Native.Nat.{ℕ, zero, suc, ◌+◌, ◌-◌, ◌*◌, ◌/◌, ◌^◌, ◌≤◌, ◌<◌, min, zero-le, suc-le-suc}

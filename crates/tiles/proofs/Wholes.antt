@@ -1,4 +1,4 @@
--- A value that is a whole number: it is finite, and so many units of 2 ^ -149. Assumes nothing.
+-- A value that is a whole number: it is finite, and so many units of 2 ^ -149.
 use mathlib.Core.Path.{sym, ap, ◌∙◌}
 use mathlib.Core.Bool.{Bool}
 use Prim.Native.Nat.{ℕ, ◌*◌, ◌^◌}

@@ -1,4 +1,6 @@
 // The tiles of a sheet that an upright box overlaps. specs/Promise.antt has what is promised of them.
+#![tactic(auto)]
+
 ghost use Rattle.std.specs.Prelude.{◌≡◌, false, ◌++◌, ◌+◌, ◌-◌, ◌*◌, ◌≤◌, min, length, take, drop};
 ghost use Rattle.tiles.specs.Tiles.{first_place, past_place_of, place_count, run, rows};
 ghost use Rattle.tiles.specs.Answer.{sheet, bad_sheet_of, bad_coordinate_of, bad_box_of};

@@ -2,67 +2,67 @@
 use crate::shape::{Aabb2, Aabb3, Vec2, Vec3};
 
 // The stretch of a line or a ray inside a box, by the parameter at which it enters and leaves.
-#[derive(Drop)]
+#[derive(Clone, Copy)]
 pub enum Interval {
     Miss,
     Hit(f32, f32),
 }
 
 // A length between two ranges or across what they share, where there is one.
-#[derive(Drop)]
+#[derive(Clone, Copy)]
 pub enum Extent {
     None,
     Some(f32),
     Refused(u32),
 }
 
-#[derive(Drop)]
+#[derive(Clone, Copy)]
 pub enum Length {
     Some(f32),
     Refused(u32),
 }
 
 // A point's image under a transform.
-#[derive(Drop)]
+#[derive(Clone, Copy)]
 pub enum Image {
     None,
     Some(Vec2),
 }
 
-#[derive(Drop)]
+#[derive(Clone, Copy)]
 pub enum Nearest {
     Some(Vec2),
     Refused(u32),
 }
 
-#[derive(Drop)]
+#[derive(Clone, Copy)]
 pub enum Boxed {
     Some(Aabb2),
     Refused(u32),
 }
 
-#[derive(Drop)]
+#[derive(Clone, Copy)]
 pub enum Boxed3 {
     Some(Aabb3),
     Refused(u32),
 }
 
 // A corner of a box of space, by its number.
-#[derive(Drop)]
+#[derive(Clone, Copy)]
 pub enum Corner {
     Some(Vec3),
     Refused(u32),
 }
 
 // Yes or no.
-#[derive(Drop)]
+#[derive(Clone, Copy)]
 pub enum Verdict {
     Some(bool),
     Refused(u32),
 }
 
 // The ink that a stroke leaves in a box: a length.
-#[derive(Drop)]
+#[derive(Clone, Copy)]
 pub enum Ink {
     Some(f32),
     Refused(u32),
@@ -70,14 +70,14 @@ pub enum Ink {
 }
 
 // What became of a box lent to be widened.
-#[derive(Drop)]
+#[derive(Clone, Copy)]
 pub enum Widened {
     Done,
     Refused(u32),
 }
 
 // The pixels of a box: columns from x0 up to x1, rows from y0 up to y1, low end in and high end out.
-#[derive(Drop)]
+#[derive(Clone, Copy)]
 pub enum Pixels {
     Some {
         x0: usize,
@@ -89,7 +89,7 @@ pub enum Pixels {
 }
 
 // How many entries were written to a lent list.
-#[derive(Drop)]
+#[derive(Clone, Copy)]
 pub enum Listed {
     Count(usize),
     Refused(u32),

@@ -1,4 +1,6 @@
 // Points and vectors of the plane.
+#![tactic(auto)]
+
 ghost use Rattle.std.specs.Prelude.{◌≡◌};
 ghost use Rattle.vec2.specs.Values.{sub_of, dot_of, squared_length_of, length_of};
 

@@ -1,4 +1,6 @@
 // Points and vectors of space.
+#![tactic(auto)]
+
 ghost use Rattle.std.specs.Prelude.{◌≡◌};
 ghost use Rattle.vec3.specs.Values.{add_of, sub_of, scale_of, dot_of, cross_of, norm_of};
 

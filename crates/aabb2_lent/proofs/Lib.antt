@@ -1,2 +1,0 @@
-pub mod Ends
-pub mod Plain

@@ -1,3 +1,0 @@
-pub mod Held
-pub mod Thin
-pub mod Walk

@@ -1,9 +1,0 @@
--- `c_aabb::bgz_aabb_intersections_against_line` meets its contract, by what its calls ensure. Assumes nothing.
-use borrow.Author.Rules.{rules}
-use Rattle.c_aabb.proofs.bgz_aabb_intersections_against_line.Statement.{statement}
-use Rattle.c_aabb.proofs.bgz_aabb_intersections_against_line.Tie as tie
-
-pub bgz-aabb-intersections-against-line-spec : {M : Type 1} → statement M
-bgz-aabb-intersections-against-line-spec = tie.close (tie.spec
-    (λ c κs. search rules) (λ c κs. search rules)
-    (λ c. rw (c.interval.ensures, c.before.intersections-against-line.ensures)))

@@ -1,0 +1,87 @@
+use Rattle.std.proofs.Common.{◌≡◌, ℕ, false, refl, sym, ap, subst, ◌∙◌, rules}
+use Rattle.std.specs.Prelude.{T, Float}
+use Rattle.std.specs.Float.{nan, binary32}
+use Rattle.std.specs.Float.Ieee.{div, fits, of_bits, to_bits}
+use Rattle.std.specs.Float.Ieee.Positive.{positive}
+use lib.Ieee.Bits.{to_bits-lt}
+use lib.Ieee.Compare.{differs_from_itself}
+use Rattle.float.proofs.Tests.{not_nan}
+use Rattle.root.specs.Radicand.{radicand}
+use Rattle.root.specs.Root.{nearest_root, sqrt_of}
+use Rattle.root.specs.Promise.{SquareRoot}
+use Rattle.root.specs.Digits.{DigitsWorked}
+use Rattle.root.proofs.Units.{positive_root}
+use Rattle.root.proofs.Nearest.{square_root}
+use Rattle.root.proofs.Exact.{digits_worked}
+use Rattle.root.proofs.Patterns.{from_bits, not_nan_bits}
+use Rattle.root.proofs.Cases.{Unworked, root_nan, root_zero, root_minus_zero, positive_at, root_top, root_negative}
+use Rattle.root.proofs.sqrt_digits.Goals as goal
+
+-- an argument of type `f32` fits the format, so its bits give it back
+own : (x : Float) → T (fits binary32 x) → x ≡ of_bits binary32 (to_bits binary32 x)
+own x f = from_bits x (to_bits binary32 x) f refl
+
+-- no digit is worked, as the argument is not both finite and above zero
+unworked : {r v w : Float} {d : ℕ} (x : Float) → T (fits binary32 x) → x ≡ v → Unworked v w → r ≡ w → d ≡ 0 → SquareRoot x r × DigitsWorked x r d
+unworked {r} x f e s same none =
+    let is : r ≡ sqrt_of x = same ∙ sym (ap sqrt_of e ∙ s.0) in
+    let other : positive x ≡ false = ap positive e ∙ s.1 in
+    (square_root x r f is, digits_worked x f is (λ p. absurd (subst T other p)) (λ n. none))
+
+zero_over_zero : div binary32 (of_bits binary32 0) (of_bits binary32 0) ≡ nan
+unfolding div of_bits
+zero_over_zero = refl
+
+pub returns-then-x : goal.returns-then-x
+returns-then-x c =
+    let f : T (fits binary32 c.args.x) = subst T (sym c.well_formed.0.1) tt in
+    let u = c.unworked.ensures in
+    let is = differs_from_itself c.args.x (subst T (sym c.if-x.true) tt) in
+    unworked c.args.x f is root_nan (u.0 ∙ is) u.1
+
+pub float_to_bits-bits : goal.float_to_bits-bits
+float_to_bits-bits c = not_nan c.args.x c.if-x.false
+
+pub returns-then-bits-eq0 : goal.returns-then-bits-eq0
+returns-then-bits-eq0 c =
+    let f : T (fits binary32 c.args.x) = subst T (sym c.well_formed.0.1) tt in
+    let u = c.unworked-then-bits-eq0.ensures in
+    let is = from_bits c.args.x 0 f c.if-bits-eq0.true in
+    unworked c.args.x f is root_zero (u.0 ∙ is) u.1
+
+pub returns-then-bits : goal.returns-then-bits
+returns-then-bits c =
+    let f : T (fits binary32 c.args.x) = subst T (sym c.well_formed.0.1) tt in
+    let u = c.unworked-then-bits.ensures in
+    let is = from_bits c.args.x 0x8000_0000 f c.if-bits.true in
+    unworked c.args.x f is root_minus_zero (u.0 ∙ is) u.1
+
+pub returns-then-bits-gt2147483648 : goal.returns-then-bits-gt2147483648
+returns-then-bits-gt2147483648 c =
+    let x = c.args.x in
+    let f : T (fits binary32 x) = subst T (sym c.well_formed.0.1) tt in
+    let u = c.unworked-then-bits-gt2147483648.ensures in
+    let none = root_negative (to_bits binary32 x) c.if-bits-gt2147483648.true (to_bits-lt binary32 x f) in
+    unworked x f (own x f) none (u.0 ∙ zero_over_zero) u.1
+
+pub returns-then-bits-ge2139095040 : goal.returns-then-bits-ge2139095040
+returns-then-bits-ge2139095040 c =
+    let x = c.args.x in
+    let f : T (fits binary32 x) = subst T (sym c.well_formed.0.1) tt in
+    let u = c.unworked-then-bits-ge2139095040.ensures in
+    let top = root_top (to_bits binary32 x) c.if-bits-ge2139095040.true (search rules) in
+    unworked x f (own x f) top (u.0 ∙ own x f) u.1
+
+pub float_from_bits-result : goal.float_from_bits-result
+float_from_bits-result c = not_nan_bits c.pack-packed.result.bits c.pack-packed.ensures.0
+
+pub returns : goal.returns
+returns c =
+    let x = c.args.x in
+    let b = to_bits binary32 x in
+    let f : T (fits binary32 x) = subst T (sym c.well_formed.0.1) tt in
+    let p = c.pack-packed.ensures in
+    let above : T (positive x) = subst (λ v. T (positive v)) (sym (own x f)) (positive_at b (search rules) (search rules)) in
+    let value = c.unpack-parts.ensures.value ∙ sym (ap radicand (own x f)) in
+    let is = p.1 ∙ ap nearest_root value ∙ sym (positive_root x above) in
+    (square_root x _ f is, digits_worked x f is (λ q. rw value at p.2) (λ no. absurd (subst T no above)))

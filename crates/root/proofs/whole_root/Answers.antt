@@ -1,0 +1,55 @@
+use Rattle.std.proofs.Common.{◌*◌, ◌/◌, ◌^◌, refl, arith}
+use Rattle.root.proofs.Turn.{Chosen, digit_one, digit_zero, next_weight, next_open}
+use Rattle.root.proofs.Turn.{last_digit_lem, nothing_left, weight_positive, weight_bound, root_bound, rest_bound}
+use Rattle.root.proofs.Worked.{exact_worked, inexact_worked}
+use Rattle.root.proofs.whole_root.Goals as goal
+use Rattle.root.proofs.whole_root.Goals.{then-cost-rest, else-cost-rest}
+
+pub loop-rest-init : goal.loop-rest-init
+loop-rest-init c = (23, refl, refl, record { sum = omega arith; bound = omega arith; left = omega arith; found = 0; made = refl })
+
+pub overflow_add-rest : goal.overflow_add-rest
+overflow_add-rest c =
+    let v = c.loop-rest.invariant in
+    let chosen : Chosen (c.args.n * 2 ^ 23) c.if-cost-rest.root c.if-cost-rest.rest c.loop-rest.bit =
+    elim c.if-cost-rest.branch [
+      | then-cost-rest w ↦ rw (w.root-is, w.rest-is) (digit_one v.3 w.if-cost-rest.true)
+      | else-cost-rest w ↦ rw (w.root-is, w.rest-is) (digit_zero v.3 (weight_positive v.0 v.1) w.if-cost-rest.false)
+    ] in
+    let small = root_bound c.args.n c.if-cost-rest.root (c.if-cost-rest.rest * c.loop-rest.bit) c.requires.1 chosen.sum in
+    omega (arith, small, rest_bound chosen, weight_bound v.0 v.1 (omega (arith, v.2)))
+
+pub loop-rest-preserved : goal.loop-rest-preserved
+loop-rest-preserved c =
+    let v = c.loop-rest.invariant in
+    let chosen : Chosen (c.args.n * 2 ^ 23) c.if-cost-rest.root c.if-cost-rest.rest c.loop-rest.bit =
+    elim c.if-cost-rest.branch [
+      | then-cost-rest w ↦ rw (w.root-is, w.rest-is) (digit_one v.3 w.if-cost-rest.true)
+      | else-cost-rest w ↦ rw (w.root-is, w.rest-is) (digit_zero v.3 (weight_positive v.0 v.1) w.if-cost-rest.false)
+    ] in
+    let next = next_weight v.0 v.1 c.if-bit-eq1.false in
+    let onward = next_open (c.loop-rest.bit / 2) next.3 c.if-is_exact.false chosen in
+    (next.0, next.1, omega (arith, v.2, next.2), onward)
+
+pub returns-then-is_exact : goal.returns-then-is_exact
+returns-then-is_exact c =
+    let v = c.loop-rest.invariant in
+    let chosen : Chosen (c.args.n * 2 ^ 23) c.if-cost-rest.root c.if-cost-rest.rest c.loop-rest.bit =
+    elim c.if-cost-rest.branch [
+      | then-cost-rest w ↦ rw (w.root-is, w.rest-is) (digit_one v.3 w.if-cost-rest.true)
+      | else-cost-rest w ↦ rw (w.root-is, w.rest-is) (digit_zero v.3 (weight_positive v.0 v.1) w.if-cost-rest.false)
+    ] in
+    let none = c.if-is_exact.true in
+    let root = nothing_left none chosen in
+    (root, exact_worked v.0 _ v.1 v.2 chosen (omega arith) (omega arith) none root)
+
+pub returns-then-bit-eq1 : goal.returns-then-bit-eq1
+returns-then-bit-eq1 c =
+    let v = c.loop-rest.invariant in
+    let chosen : Chosen (c.args.n * 2 ^ 23) c.if-cost-rest.root c.if-cost-rest.rest c.loop-rest.bit =
+    elim c.if-cost-rest.branch [
+      | then-cost-rest w ↦ rw (w.root-is, w.rest-is) (digit_one v.3 w.if-cost-rest.true)
+      | else-cost-rest w ↦ rw (w.root-is, w.rest-is) (digit_zero v.3 (weight_positive v.0 v.1) w.if-cost-rest.false)
+    ] in
+    let root = last_digit_lem c.if-bit-eq1.true chosen in
+    (root, inexact_worked v.0 _ v.1 v.2 chosen c.if-is_exact.false c.if-bit-eq1.true root)

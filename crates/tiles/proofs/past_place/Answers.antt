@@ -1,0 +1,28 @@
+use Rattle.std.proofs.Common.{◌≡◌, ℕ, suc, ◌≤◌, true, false, sym, ap, ◌∙◌, add-one, arith, pos}
+use Rattle.std.specs.Prelude.{Float}
+use Rattle.std.specs.Float.{binary32}
+use Rattle.std.specs.Float.Ieee.{of_bits, of_int, fits}
+use Rattle.float.specs.Rounded.{◌⊘◌}
+use Rattle.tiles.specs.Answer.{bad_coordinate_of}
+use Rattle.tiles.proofs.Accepted.{taken}
+use Rattle.tiles.proofs.Divided.{small_quotient}
+use Rattle.tiles.proofs.Cut.{Cut, cut}
+use Rattle.tiles.proofs.past_place.Goals as goal
+
+-- the quotient's test and its cast give what proofs/Cut.antt says
+quotient : (x : Float) (size : ℕ) → fits binary32 x ≡ true → (bad_coordinate_of x ≡ false) × (1 ≤ size) × (size ≤ 4096)
+    → Cut (x ⊘ of_int binary32 (pos size))
+quotient x size f r = cut (x ⊘ of_int binary32 (pos size)) (small_quotient x size (taken x f r.0) r.1 r.2)
+
+pub returns-then-q : goal.returns-then-q
+unfolding of_bits
+returns-then-q c = sym ((quotient c.args.x c.args.size c.well_formed.0.1 c.requires).minus_past c.if-q.true)
+
+pub overflow_add-result : goal.overflow_add-result
+overflow_add-result c = omega (arith, c.to_usize.ensures, (quotient c.args.x c.args.size c.well_formed.0.1 c.requires).whole_le)
+
+pub returns : goal.returns
+unfolding of_bits
+returns c =
+    let n = c.to_usize in
+    add-one n.result ∙ ap suc n.ensures ∙ (quotient c.args.x c.args.size c.well_formed.0.1 c.requires).plus_past c.if-q.false
