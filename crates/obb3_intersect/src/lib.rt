@@ -60,7 +60,7 @@ pub fn is_intersect_to_obb3(a: Obb3, b: Obb3) -> Verdict
     let mut vs = us;
     let mut axes = us;
     let mut turn = 0;
-    loop {
+    'turns: loop {
         let v = verdict(ps, qs, axes);
         if !is_yes(v) {
             break v;

@@ -12,16 +12,16 @@ three : (c : After-units-us) → length c.units-us.result ≡ 3
 unfolding units_of
 three c = ap length c.units-us.ensures
 
-pub loop-b-init : goal.loop-b-init
-loop-b-init c = (omega arith, (λ h. absurd (omega (arith, h))), turn_none _ _ _ _)
+pub turns-init : goal.turns-init
+turns-init c = (omega arith, (λ h. absurd (omega (arith, h))), turn_none _ _ _ _)
 
 -- the other axes decide after a turn that does not end the search: those of the next one stand first
-pub loop-b-preserved : goal.loop-b-preserved
-loop-b-preserved c =
-    let inv = c.loop-b.invariant in
+pub turns-preserved : goal.turns-preserved
+turns-preserved c =
+    let inv = c.turns.invariant in
     let told = c.verdict-v.ensures in
     let yes = sym c.is_yes.ensures ∙ c.if-not-is_yes.false in
-    let turn = c.loop-b.turn in
+    let turn = c.turns.turn in
     elim c.if-turn-eq0.branch [
       | then-turn-eq0 w ↦ (
         omega arith,
@@ -29,11 +29,11 @@ loop-b-preserved c =
         rw (w.axes-is, w.units-vs.ensures, w.if-turn-eq0.true) (turn_second told (rw w.if-turn-eq0.true at inv.2) yes),
       )
       | else-turn-eq0 w ↦
-          let same : c.loop-b.vs ≡ units_of c.args.b = inv.1 (omega (arith, w.if-turn-eq0.false)) in
+          let same : c.turns.vs ≡ units_of c.args.b = inv.1 (omega (arith, w.if-turn-eq0.false)) in
           let k = turn - 1 in
           let before : turn ≡ suc k = omega (arith, w.if-turn-eq0.false) in
           let after : turn + 1 ≡ suc (suc k) = omega (arith, w.if-turn-eq0.false) in
-          let few : k < length c.units-us.result = omega (arith, three (goal.at.loop-b-preserved c).After-units-us) in (
+          let few : k < length c.units-us.result = omega (arith, three (goal.at.turns-preserved c).After-units-us) in (
             omega arith,
             (λ h. w.vs-is ∙ same),
             rw (w.axes-is, w.crosses-axes.ensures, same)
@@ -45,11 +45,11 @@ pub returns-then-not-is_yes : goal.returns-then-not-is_yes
 returns-then-not-is_yes c =
     promised _ _ _
     (rw (c.units-us.ensures, c.corners-qs.ensures, c.corners-ps.ensures)
-    at (turn_over c.verdict-v.ensures c.loop-b.invariant.2 (sym c.is_yes.ensures ∙ c.if-not-is_yes.true)))
+    at (turn_over c.verdict-v.ensures c.turns.invariant.2 (sym c.is_yes.ensures ∙ c.if-not-is_yes.true)))
 
 pub returns-then-turn-eq4 : goal.returns-then-turn-eq4
 returns-then-turn-eq4 c =
     promised _ _ _
     (rw (c.units-us.ensures, c.corners-qs.ensures, c.corners-ps.ensures)
-    at (turn_last c.verdict-v.ensures (three (goal.at.returns-then-turn-eq4 c).After-units-us) (rw c.if-turn-eq4.true at c.loop-b.invariant.2)
+    at (turn_last c.verdict-v.ensures (three (goal.at.returns-then-turn-eq4 c).After-units-us) (rw c.if-turn-eq4.true at c.turns.invariant.2)
     (sym c.is_yes.ensures ∙ c.if-not-is_yes.false)))
