@@ -2,7 +2,7 @@ use Rattle.float.proofs.Laws.{mended_min, mended_max}
 use Rattle.slabs.specs.Clip.{narrowed_of, at_low, at_high}
 use Rattle.slabs.proofs.narrowed.Goals as goal
 
--- The four parameters are the two that `narrowed_of` orders: the second stands in for a NaN in the first.
+-- The code puts the second parameter in the place of a NaN in the first: the lesser and the greater of the two are then what `narrowed_of` has.
 pub returns-then-s : goal.returns-then-s
 unfolding narrowed_of
 returns-then-s c =

@@ -2,7 +2,7 @@ use Rattle.text.specs.Numbers.{hex8}
 use Rattle.text.proofs.Laws.{one, none}
 use Rattle.text.proofs.put_hex8.Goals as goal
 
--- each call is four places before the next
+-- eight digits, one call after the other
 pub returns : goal.returns
 unfolding hex8
 returns c =
