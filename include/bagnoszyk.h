@@ -4,8 +4,7 @@
  *
  * Calls. Every routine takes any bits in every number, NaN and infinities among them, ends, and gives an answer, none, or
  * the number of a refusal. It keeps no state, allocates nothing and calls nothing outside the library, so threads may call
- * at the same time; a list that one call writes must be in use by no other call. It is built for Linux on x86-64-v2, a
- * processor that has SSE4.2; on another, calls may end the program.
+ * at the same time; a list that one call writes must be in use by no other call. It is built for x86-64 Linux.
  *
  * Answers. A struct bgz_..._answer has a status: BGZ_ANSWERED (0), BGZ_NONE (255), or the number of a refusal. Where the
  * status is not 0, every other field is 0, but for the place of a refusal that tells one. Conditions of a refusal are

@@ -55,8 +55,6 @@
 //! BAGNOSZYK_STATICLIB=PREFIX/lib cargo build
 //! ```
 //!
-//! The archive is built for Linux on x86-64-v2, a processor that has SSE4.2; on another, calls may end the program.
-//!
 //! The wrappers are marked to be inlined: a struct handed on by a call of its own costs more than a clip.
 
 #![warn(missing_docs)]
