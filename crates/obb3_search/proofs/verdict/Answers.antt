@@ -50,7 +50,8 @@ separated :
     separates dot_of c.args.ps c.args.qs (axis_at c.args.axes c.axes.j) ≡ c.apart.result
 separated c =
     let folded = turned c.before.before.before in
-    separates_by_ranges _ (omega arith) (omega arith) c.if-i-eq8.true folded.0 folded.1 ∙ sym c.apart.ensures
+    let all : c.corners.i + 1 ≡ 8 = omega arith in
+    separates_by_ranges _ (omega arith) (omega arith) all folded.0 folded.1 ∙ sym c.apart.ensures
 
 -- an axis on which every projection is a number, and that does not separate, is passed
 passed :
