@@ -7,11 +7,11 @@ use borrow.Author.Tests.{ne_eqb}
 use lib.Dec.{T, eqb}
 use lib.Arith.{le→nltb}
 use lib.Ieee.Bits.{nan_bits_above}
-use lib.Ieee.{Float, nan, inf, fin, binary32, of_bits, nan_bits, is_nan, to_bits}
+use lib.Ieee.{Float, nan, inf, fin, binary32, div, of_bits, nan_bits, is_nan, to_bits}
 
--- a pattern above infinity's, the sign aside
-pub above : (b : ℕ) → 0x7f80_0000 < b % 0x8000_0000 → nan ≡ of_bits binary32 b
-unfolding of_bits
+-- a pattern above infinity's, the sign aside: 0 / 0 is the NaN
+pub above : (b : ℕ) → 0x7f80_0000 < b % 0x8000_0000 → div binary32 (of_bits binary32 0) (of_bits binary32 0) ≡ of_bits binary32 b
+unfolding div of_bits
 above b h =
     let q : b % 0x8000_0000 / 0x80_0000 ≡ 255 = omega arith in
     let z : eqb (b % 0x80_0000) 0 ≡ false = ne_eqb (b % 0x80_0000) 0 (λ e. omega arith) in

@@ -6,7 +6,7 @@ ghost use Rattle.std.specs.Float.{binary32};
 ghost use Rattle.std.specs.Float.Ieee.{is_nan, of_bits, to_bits};
 
 // The float whose bits these are. `f32::from_bits` takes no NaN pattern: those are the ones above infinity's, the sign aside.
-#[tactic(auto, using(crate::proofs::Nan::below))]
+#[tactic(auto, using(crate::proofs::Nan::below, crate::proofs::Nan::above))]
 pub fn of_bits(bits: u32) -> f32
     ensures { result ≡ of_bits binary32 bits }
 {

@@ -28,6 +28,7 @@ pub fn is_finite(x: f32) -> bool
 }
 
 // The smaller of two numbers, and the other one where one is a NaN.
+#[tactic(auto, using(crate::proofs::Tests::differs, crate::proofs::Tests::same), unfolding(crate::specs::Values::min_of))]
 pub fn min(a: f32, b: f32) -> f32
     ensures { result ≡ min_of a b }
 {
@@ -41,6 +42,7 @@ pub fn min(a: f32, b: f32) -> f32
 }
 
 // The larger of two numbers, and the other one where one is a NaN.
+#[tactic(auto, using(crate::proofs::Tests::differs, crate::proofs::Tests::same), unfolding(crate::specs::Values::max_of))]
 pub fn max(a: f32, b: f32) -> f32
     ensures { result ≡ max_of a b }
 {
@@ -81,6 +83,7 @@ pub fn greater(a: f32, b: f32) -> f32
 }
 
 // a, or b in the place of a NaN.
+#[tactic(auto, using(crate::proofs::Tests::differs, crate::proofs::Tests::same), unfolding(crate::specs::Values::number_or_of))]
 pub fn number_or(a: f32, b: f32) -> f32
     ensures { result ≡ number_or_of a b }
 {
