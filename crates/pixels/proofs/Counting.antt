@@ -1,12 +1,12 @@
 -- The positions in the image, counted one after the other.
-use Rattle.std.proofs.Common.{◌≡◌, ℕ, ◌+◌, ◌-◌, ◌≤◌, length, sym, ap, ◌∙◌, add-one, arith}
+use Rattle.std.proofs.Common.{◌≡◌, ℕ, ◌+◌, ◌-◌, ◌≤◌, true, length, sym, ap, ◌∙◌, add-one, le-leb, arith}
 use Rattle.types.specs.declared.shape.Vec2.{Vec2}
 use Rattle.stroke.specs.declared.axis.Axis.{Axis}
-use Rattle.stroke.specs.Walk.{position}
+use Rattle.stroke.specs.Walk.{exit, position}
 use Rattle.stroke.specs.Image.{on_image, one_if_of}
 use Rattle.pixels.proofs.Lists.{entered_none, entered_more, entered_le, entered_few}
 use Rattle.stroke.specs.Steps.{first, next}
-use Rattle.pixels.specs.Post.{entered}
+use Rattle.pixels.specs.Post.{entered, Measures}
 use Rattle.stroke.proofs.Walking.{first_is, next_is}
 
 -- p is position k, and n of the positions before are in the image
@@ -35,3 +35,11 @@ module _ {w h : ℕ} {a b : Axis} {p : Vec2} {n k : ℕ} (g : Counting w h a b p
   counting_le steps going =
       let e : k + (steps - k) ≡ steps = omega arith in
       omega (arith, g.count, entered_le w h a b k (steps - k), ap (λ (i : ℕ). length (entered w h a b i)) e)
+
+-- there are no more entries than positions, so a list that takes as many fits
+pub fits_uncounted : (w h : ℕ) (a b : Axis) (more room k : ℕ) → k ≡ exit a b → k + more ≤ room
+    → Measures w h a b more room (record { steps = k; fits = true })
+fits_uncounted w h a b more room k is fits = record {
+  steps_is = is;
+  fits_is = sym (le-leb (length (entered w h a b k) + more) room (omega (arith, entered_few w h a b k, fits)));
+}

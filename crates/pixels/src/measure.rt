@@ -50,6 +50,7 @@ fn measure_counting(
 
 // Each position gives one entry at most, so a list that takes as many needs no count, and a walk without one is quicker.
 // `guess`, how many entries are expected, decides only which of the two is tried first.
+#[tactic(auto, using(crate::proofs::Counting::fits_uncounted))]
 pub(crate) fn measure(
     room: usize,
     more: usize,

@@ -1,10 +1,12 @@
 -- What confirms a root: q is √(n * 2 ^ 23) rounded where that root lies between the two points halfway to the neighbours of q. Then the float of
 -- its bits is the square root.
-use mathlib.Core.Path.{◌≡◌, sym, ap, ◌∙◌, subst}
+use mathlib.Core.Path.{◌≡◌, refl, sym, ap, ◌∙◌, subst}
+use mathlib.Core.Bool.{true}
 use Prim.Native.Nat.{ℕ, zero, suc, ◌+◌, ◌-◌, ◌*◌, ◌/◌, ◌%◌, ◌^◌, ◌≤◌, ◌<◌}
 use native.Mathlib.Decide.{dec_le}
 use native.Mathlib.Omega.{arith}
-use lib.Ieee.{binary32, of_bits}
+use lib.Dec.{T}
+use lib.Ieee.{Float, binary32, fits, of_bits, to_bits}
 use Rattle.root.specs.Root.{nearest_root, sqrt_of}
 use Rattle.root.specs.Steps.{Rounds}
 use Rattle.root.proofs.Rounding.{up, down}
@@ -12,6 +14,7 @@ use Rattle.root.proofs.Units.{positive_root}
 use Rattle.root.proofs.Unpacked.{normal}
 use Rattle.root.proofs.Packed.{half, Split, root_float}
 use Rattle.root.proofs.Cases.{positive_at}
+use Rattle.root.proofs.Patterns.{from_bits}
 
 -- the square of q is at most n * 2 ^ 23, and q is the whole root and rounds down; or it is above, and q - 1 is the whole root and rounds up
 pub confirmed : (n q : ℕ) → 2 ^ 23 ≤ n → n ≤ 2 ^ 25 - 2 → q * q < n * 2 ^ 23 + q → n * 2 ^ 23 ≤ q * q + q → Rounds (n * 2 ^ 23) q
@@ -34,3 +37,9 @@ root_of_normal b n q low high split r =
     let f = root_float (b % 2 ^ 23 + 2 ^ 23) (b / 2 ^ 23 + 148) n s.most split r in
     let above = positive_at b (omega arith) high in
     (f.0, f.1 ∙ ap nearest_root s.value ∙ sym (positive_root (of_bits binary32 b) above))
+
+-- the root of x, where a root of its bits is found
+pub root_of_bits : (x : Float) (b : ℕ) → fits binary32 x ≡ true → 0 < b →
+    (0 < b → of_bits binary32 b ≡ sqrt_of (of_bits binary32 (to_bits binary32 x))) → of_bits binary32 b ≡ sqrt_of x
+root_of_bits x b held some found =
+    found some ∙ sym (ap sqrt_of (from_bits x (to_bits binary32 x) (subst T (sym held) tt) refl))

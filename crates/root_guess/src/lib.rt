@@ -69,7 +69,7 @@ fn root_bits(bits: u32) -> u32
 
 // The square root, as `root::sqrt` gives it: a guess by Newton's method, taken where whole-number squares confirm it. Where they do not, and where
 // the number is not a normal one above zero, the root's digits are worked.
-#[tactic(auto, using(root::proofs::Patterns::not_nan_bits))]
+#[tactic(auto, using(crate::proofs::Confirmed::root_of_bits, root::proofs::Patterns::not_nan_bits))]
 pub fn sqrt(x: f32) -> f32
     ensures { result ≡ sqrt_of x }
 {

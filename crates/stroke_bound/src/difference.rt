@@ -15,7 +15,8 @@ fn rise(low: f32, high: f32) -> usize
 {
     let n = rounding::to_usize(high - low);
     let whole = n as f32;
-    if (low < high - whole) | (-high < -low - whole) {
+    let is_one_less = (low < high - whole) | (-high < -low - whole);
+    if is_one_less {
         return n + 1;
     }
     n

@@ -34,11 +34,13 @@ pub fn overlapping_tiles(
     let columns = places(b.min_x, b.max_x, size, shape_width);
     let rows = places(b.min_y, b.max_y, size, shape_height);
     let count = rows.count * columns.count;
-    if out.len() < count {
+    let is_short = out.len() < count;
+    if is_short {
         return Listed::Refused(types::refusal::ROOM);
     }
     // A box with no tile may start so far off the sheet that its tile numbers would not fit u32.
-    if count == 0 {
+    let is_empty = count == 0;
+    if is_empty {
         return Listed::Count(0);
     }
     write_rows(

@@ -27,7 +27,7 @@ loop-rest-preserved c =
       | then-cost-rest w ↦ rw (w.root-is, w.rest-is) (digit_one v.3 w.if-cost-rest.true)
       | else-cost-rest w ↦ rw (w.root-is, w.rest-is) (digit_zero v.3 (weight_positive v.0 v.1) w.if-cost-rest.false)
     ] in
-    let next = next_weight v.0 v.1 c.if-bit-eq1.false in
+    let next = next_weight v.0 v.1 c.if-is_last.false in
     let onward = next_open (c.loop-rest.bit / 2) next.3 c.if-is_exact.false chosen in
     (next.0, next.1, omega (arith, v.2, next.2), onward)
 
@@ -43,13 +43,13 @@ returns-then-is_exact c =
     let root = nothing_left none chosen in
     (root, exact_worked v.0 _ v.1 v.2 chosen (omega arith) (omega arith) none root)
 
-pub returns-then-bit-eq1 : goal.returns-then-bit-eq1
-returns-then-bit-eq1 c =
+pub returns-then-is_last : goal.returns-then-is_last
+returns-then-is_last c =
     let v = c.loop-rest.invariant in
     let chosen : Chosen (c.args.n * 2 ^ 23) c.if-cost-rest.root c.if-cost-rest.rest c.loop-rest.bit =
     elim c.if-cost-rest.branch [
       | then-cost-rest w ↦ rw (w.root-is, w.rest-is) (digit_one v.3 w.if-cost-rest.true)
       | else-cost-rest w ↦ rw (w.root-is, w.rest-is) (digit_zero v.3 (weight_positive v.0 v.1) w.if-cost-rest.false)
     ] in
-    let root = last_digit_lem c.if-bit-eq1.true chosen in
-    (root, inexact_worked v.0 _ v.1 v.2 chosen c.if-is_exact.false c.if-bit-eq1.true root)
+    let root = last_digit_lem c.if-is_last.true chosen in
+    (root, inexact_worked v.0 _ v.1 v.2 chosen c.if-is_exact.false c.if-is_last.true root)

@@ -58,22 +58,22 @@ overflow_mul-count c =
           c.bad_sheet.ensures c.if-bad_sheet.false c.bad_box.ensures c.if-bad_box.false c.places-columns.ensures c.places-rows.ensures),
     )
 
-pub returns-then-out-count : goal.returns-then-out-count
-returns-then-out-count c =
+pub returns-then-is_short : goal.returns-then-is_short
+returns-then-is_short c =
     too_short
     (found {s = sheet c.args.size c.args.shape_width c.args.shape_height}
     c.bad_sheet.ensures c.if-bad_sheet.false c.bad_box.ensures c.if-bad_box.false c.places-columns.ensures c.places-rows.ensures)
-    c.args.out.now c.if-out-count.true
+    c.args.out.now c.if-is_short.true
 
-pub returns-then-count-eq0 : goal.returns-then-count-eq0
-returns-then-count-eq0 c =
+pub returns-then-is_empty : goal.returns-then-is_empty
+returns-then-is_empty c =
     let g = c.well_formed.0.1.1 in
     empty
     (found {s = sheet c.args.size c.args.shape_width c.args.shape_height}
     c.bad_sheet.ensures c.if-bad_sheet.false c.bad_box.ensures c.if-bad_box.false c.places-columns.ensures c.places-rows.ensures)
     c.args.out.now
     record { min_x = g.0.1; min_y = g.1.0.1; max_x = g.1.1.0.1; max_y = g.1.1.1.0.1 }
-    c.if-count-eq0.true
+    c.if-is_empty.true
 
 pub returns : goal.returns
 returns c =
@@ -83,4 +83,4 @@ returns c =
     c.bad_sheet.ensures c.if-bad_sheet.false c.bad_box.ensures c.if-bad_box.false c.places-columns.ensures c.places-rows.ensures)
     c.args.out.now c.write_rows.new.out
     record { min_x = g.0.1; min_y = g.1.0.1; max_x = g.1.1.0.1; max_y = g.1.1.1.0.1 }
-    c.if-out-count.false c.write_rows.ensures
+    c.if-is_short.false c.write_rows.ensures

@@ -31,14 +31,14 @@ int_to_float-whole c = in_float_lem _ (le_trans (small c.args.low c.args.high c.
 pub overflow_add-result : goal.overflow_add-result
 overflow_add-result c = omega (arith, small c.args.low c.args.high c.requires c.to_usize-n.ensures)
 
-pub returns-then-low-high : goal.returns-then-low-high
-returns-then-low-high c = (
-  meets c.args.low c.args.high c.requires c.to_usize-n.ensures true c.well_formed.0.1 c.well_formed.1.0.1 c.if-low-high.true,
+pub returns-then-is_one_less : goal.returns-then-is_one_less
+returns-then-is_one_less c = (
+  meets c.args.low c.args.high c.requires c.to_usize-n.ensures true c.well_formed.0.1 c.well_formed.1.0.1 c.if-is_one_less.true,
   omega (arith, small c.args.low c.args.high c.requires c.to_usize-n.ensures),
 )
 
 pub returns : goal.returns
 returns c = (
-  meets c.args.low c.args.high c.requires c.to_usize-n.ensures false c.well_formed.0.1 c.well_formed.1.0.1 c.if-low-high.false,
+  meets c.args.low c.args.high c.requires c.to_usize-n.ensures false c.well_formed.0.1 c.well_formed.1.0.1 c.if-is_one_less.false,
   omega (arith, small c.args.low c.args.high c.requires c.to_usize-n.ensures),
 )
