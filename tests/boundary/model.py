@@ -105,7 +105,7 @@ class Refusal:
 
 @dataclasses.dataclass(frozen=True)
 class Enum:
-    """What an answer can be beside what was asked for: none of it, a refusal without a place, one with a place."""
+    """What an answer can be beside what was asked for: none of it, a refusal, one that may have a place."""
 
     none: bool
     refused: bool
@@ -124,9 +124,9 @@ class Model:
         return self.enums[function.enum] if function.enum else Enum(False, False, False)
 
     def kind(self, function):
-        """What the contract and the comment say of a function's answer: refused in any way, and perhaps with a place."""
+        """What the contract and the comment say of a function's answer."""
         enum = self.enum(function)
-        return Enum(enum.none, enum.refused or enum.placed, bool(self.places(function)))
+        return Enum(enum.none, enum.refused, bool(self.places(function)))
 
     def places(self, function):
         """The refusals of a function that tell a place."""
@@ -169,10 +169,10 @@ def named(text):
 def functions_of(source):
     pattern = COMMENT + r'#\[unsafe\(no_mangle\)\]\n' + ATTRIBUTES + r'pub extern "C" fn (\w+)\(([^)]*)\) -> (\w+)\n(.*?)^\{(.*?)^\}'
     for comment, symbol, parameters, result, contract, body in re.findall(pattern, source, re.S | re.M):
-        enum = re.search(r"result ≡ of_([a-z]\w*)", contract)
+        answer = re.search(r"result ≡ \(?(\w*answer(?:_at)?_of|status_of)\b", contract)
         # The innermost call: what is around it only turns an answer into a struct.
         routine = re.findall(r"\w+::\w+(?=\()", body)[-1]
-        yield Function(symbol, comment_of(comment), named(parameters), result, enum[1].capitalize() if enum else "", routine)
+        yield Function(symbol, comment_of(comment), named(parameters), result, answer[1] if answer else "", routine)
 
 
 def structs_of(source):
@@ -180,15 +180,15 @@ def structs_of(source):
         yield Struct(name, comment_of(comment), named(fields))
 
 
-def enums_of(source):
-    for name, variants in re.findall(r"^pub enum (\w+) \{\n(.*?)^\}", source, re.S | re.M):
-        none = bool(re.search(r"^    (None|Miss),$", variants, re.M))
-        yield name, Enum(none, "Refused(u32)" in variants, "place: usize" in variants)
+def enums_of(definitions):
+    """Of each definition that turns an answer into what C sees, what its argument can be: `f : Result (Option Float) Refusal → FloatAnswer`."""
+    for name, answer in re.findall(r"^abbrev pub (\w*answer(?:_at)?_of|status_of) : (?:\{.*?\} → )?(.*?) → \w+$", definitions, re.M):
+        yield name, Enum("Option" in answer or answer == "Interval", "Result" in answer, "RefusalAt" in answer)
 
 
 def refusals_of(source):
-    for comment, name, number in re.findall(COMMENT + r"pub const (\w+): u32 = (\d+);", source, re.M):
-        yield Refusal(name, int(number), " ".join(comment_of(comment).text))
+    for text, name, number in re.findall(r'^    #\[error\("(.*)"\)\]\n    (\w+) = (\d+),$', source, re.M):
+        yield Refusal(re.sub(r"(?<=[a-z])(?=[A-Z])", "_", name).upper(), int(number), f"{text[0].upper()}{text[1:]}.")
 
 
 def sources():
@@ -213,12 +213,13 @@ def read():
             modules[own[0].module] = " ".join(comment_of(re.match(r"(?://.*\n)*", source)[0]).text)
         functions += own
         structs += declared
-        enums.update(enums_of(source))
+    for crate in ("c_answers", "c_hatch"):
+        for path in (ROOT / "crates" / crate / "specs").glob("*.antt"):
+            enums.update(enums_of(path.read_text()))
     refusals = tuple(refusals_of((ROOT / "crates/types/src/refusal.rt").read_text()))
     structs.sort(key=lambda s: s.is_answer)
     model = Model(tuple(functions), {s.name: s for s in structs}, refusals, enums, modules)
     for function in functions:
-        told, enum = bool(model.places(function)), model.enum(function)
-        if told and not enum.placed or not told and enum.placed and not enum.refused:
+        if bool(model.places(function)) != model.enum(function).placed:
             sys.exit(f"boundary: {function.symbol} and its comment differ on the places of refusals")
     return model

@@ -2,7 +2,7 @@
 use Rattle.std.specs.Prelude.{List, [], ◌∷◌}
 use Rattle.types.specs.declared.shape.Vec2.{Vec2}
 use Rattle.types.specs.declared.shape.Aabb2.{Aabb2}
-use Rattle.types.specs.declared.answer.Interval.{Interval}
+use Rattle.slabs.specs.declared.Interval.{Interval}
 use Rattle.slabs.specs.declared.Slab.{Slab}
 unfoldable pub use Rattle.slabs.specs.Clip.{narrowed_of, narrow_all, ordered_of, clip_over, ahead_of}
 

@@ -1,14 +1,13 @@
 -- A box's size, and boxes moved, scaled and transformed, each operation rounded. Definitions only.
-use Rattle.std.specs.Prelude.{true, false, List, [], ◌∷◌, Float}
+use Rattle.std.specs.Prelude.{true, false, List, [], ◌∷◌, Float, Option, None, Some, Result, Ok, Err}
 use Rattle.std.specs.Float.{inf}
 use Rattle.std.specs.Float.Ieee.{neg}
+use Rattle.types.specs.Answer.{result_and_then}
 use Rattle.types.specs.declared.shape.Vec2.{Vec2}
 use Rattle.types.specs.declared.shape.Aabb2.{Aabb2}
 use Rattle.types.specs.declared.shape.Mat3.{Mat3}
-use Rattle.types.specs.declared.answer.Image.{Image}
-use Rattle.types.specs.declared.answer.Image.TheVariants as image
-use Rattle.types.specs.declared.answer.Boxed.{Boxed}
-use Rattle.types.specs.declared.answer.Boxed.TheVariants.{Some, Refused}
+use Rattle.types.specs.declared.refusal.Refusal.{Refusal}
+use Rattle.types.specs.declared.refusal.Refusal.TheVariants.{NoImage}
 use Rattle.float.specs.Rounded.{◌⊕◌, ◌⊖◌, ◌⊗◌, ◌⊘◌, +0, half, one}
 use Rattle.float.specs.Values.{max_of}
 use Rattle.mat3.specs.Values as mat3
@@ -40,18 +39,18 @@ no_points_of = record { min_x = inf false; min_y = inf false; max_x = inf true; 
 abbrev pub point_of : Vec2 → Aabb2
 point_of p = record { min_x = p.x; min_y = p.y; max_x = p.x; max_y = p.y }
 
--- a box widened to hold an image, in which a NaN drops out; refusal 8 where a corner has no image
-unfoldable pub with_image_of : Boxed → Image → Boxed
-with_image_of (Refused n) i = Refused n
-with_image_of (Some b) image.None = Refused 8
-with_image_of (Some b) (image.Some p) = Some (from_two_aabbs_of b (point_of p))
+-- a box widened to hold an image, in which a NaN drops out; NoImage where a corner has no image
+unfoldable pub with_image_of : Aabb2 → Option Vec2 → Result Aabb2 Refusal
+with_image_of b None = Err NoImage
+with_image_of b (Some p) = Ok (from_two_aabbs_of b (point_of p))
 
-unfoldable pub with_images : Mat3 → Boxed → List Vec2 → Boxed
-with_images m b [] = b
-with_images m b (p ∷ ps) = with_images m (with_image_of b (mat3.transform_homogeneous_of m p)) ps
+-- widened by the images of the points in turn, up to the first that has none
+unfoldable pub with_images : Mat3 → Aabb2 → List Vec2 → Result Aabb2 Refusal
+with_images m b [] = Ok b
+with_images m b (p ∷ ps) = result_and_then (λ wider. with_images m wider ps) (with_image_of b (mat3.transform_homogeneous_of m p))
 
-unfoldable pub transform_homogeneous_of : Aabb2 → Mat3 → Boxed
-transform_homogeneous_of b m = with_images m (Some no_points_of) (corners_of b)
+unfoldable pub transform_homogeneous_of : Aabb2 → Mat3 → Result Aabb2 Refusal
+transform_homogeneous_of b m = with_images m no_points_of (corners_of b)
 
 -- ---- moved and scaled
 

@@ -4,9 +4,9 @@
 ghost use Rattle.std.specs.Prelude.{◌≡◌};
 ghost use Rattle.mat3.specs.Values as mat3;
 ghost use Rattle.aabb.specs.Inside.{center_of};
-ghost use Rattle.aabb2_change.specs.Change.{max_edge_size_of, transform_homogeneous_of, to_transformation_world2unit_ortho_preserve_asp_of, scale_of, translate_of, corner, no_points_of, with_image_of};
+ghost use Rattle.aabb2_change.specs.Change.{max_edge_size_of, transform_homogeneous_of, to_transformation_world2unit_ortho_preserve_asp_of, scale_of, translate_of, reach, corner, no_points_of, with_image_of};
 
-use types::{Aabb2, Boxed, Image, Mat3, Vec2};
+use types::{Aabb2, Mat3, Refusal, Vec2};
 
 pub fn center(b: Aabb2) -> Vec2
     ensures { result ≡ center_of b }
@@ -26,47 +26,42 @@ fn no_points() -> Aabb2
     ensures { result ≡ no_points_of }
 {
     Aabb2 {
-        min_x: 1.0 / 0.0,
-        min_y: 1.0 / 0.0,
-        max_x: -1.0 / 0.0,
-        max_y: -1.0 / 0.0,
+        min_x: f32::INFINITY,
+        min_y: f32::INFINITY,
+        max_x: f32::NEG_INFINITY,
+        max_y: f32::NEG_INFINITY,
     }
 }
 
 // A box widened to hold a corner's image. A corner with no image is refused.
-fn with_image(b: Boxed, image: Image) -> Boxed
+fn with_image(b: Aabb2, image: Option<Vec2>) -> Result<Aabb2, Refusal>
     ensures { result ≡ with_image_of b image }
 {
-    match b {
-        Boxed::Refused(n) => Boxed::Refused(n),
-        Boxed::Some(held) => match image {
-            Image::None => Boxed::Refused(types::refusal::NO_IMAGE),
-            Image::Some(p) => Boxed::Some(aabb2_from::from_two_aabbs(
-                held,
-                Aabb2 {
-                    min_x: p.x,
-                    min_y: p.y,
-                    max_x: p.x,
-                    max_y: p.y,
-                },
-            )),
+    let p = image.ok_or(Refusal::NoImage)?;
+    Ok(aabb2_from::from_two_aabbs(
+        b,
+        Aabb2 {
+            min_x: p.x,
+            min_y: p.y,
+            max_x: p.x,
+            max_y: p.y,
         },
-    }
+    ))
 }
 
-fn image(m: Mat3, x: f32, y: f32) -> Image
+fn image(m: Mat3, x: f32, y: f32) -> Option<Vec2>
     ensures { result ≡ mat3.transform_homogeneous_of m (corner x y) }
 {
     mat3::transform_homogeneous(m, Vec2 { x, y })
 }
 
 // The box around the images of the four corners. A corner with no image is refused.
-pub fn transform_homogeneous(b: Aabb2, m: Mat3) -> Boxed
+pub fn transform_homogeneous(b: Aabb2, m: Mat3) -> Result<Aabb2, Refusal>
     ensures { result ≡ transform_homogeneous_of b m }
 {
-    let one = with_image(Boxed::Some(no_points()), image(m, b.min_x, b.min_y));
-    let two = with_image(one, image(m, b.min_x, b.max_y));
-    let three = with_image(two, image(m, b.max_x, b.min_y));
+    let one = with_image(no_points(), image(m, b.min_x, b.min_y))?;
+    let two = with_image(one, image(m, b.min_x, b.max_y))?;
+    let three = with_image(two, image(m, b.max_x, b.min_y))?;
     with_image(three, image(m, b.max_x, b.max_y))
 }
 
@@ -89,15 +84,25 @@ pub fn to_transformation_world2unit_ortho_preserve_asp(b: Aabb2) -> Mat3
     }
 }
 
+// Half the edge from low to high, times s.
+fn reach(low: f32, high: f32, s: f32) -> f32
+    ensures { result ≡ reach low high s }
+{
+    (high - low) * 0.5 * s
+}
+
 // The box with its edges s times as long, about its centre.
 pub fn scale(b: Aabb2, s: f32) -> Aabb2
     ensures { result ≡ scale_of b s }
 {
+    let c = center(b);
+    let dx = reach(b.min_x, b.max_x, s);
+    let dy = reach(b.min_y, b.max_y, s);
     Aabb2 {
-        min_x: (b.min_x + b.max_x) * 0.5 - (b.max_x - b.min_x) * 0.5 * s,
-        min_y: (b.min_y + b.max_y) * 0.5 - (b.max_y - b.min_y) * 0.5 * s,
-        max_x: (b.min_x + b.max_x) * 0.5 + (b.max_x - b.min_x) * 0.5 * s,
-        max_y: (b.min_y + b.max_y) * 0.5 + (b.max_y - b.min_y) * 0.5 * s,
+        min_x: c.x - dx,
+        min_y: c.y - dy,
+        max_x: c.x + dx,
+        max_y: c.y + dy,
     }
 }
 

@@ -1,10 +1,10 @@
 -- Points against a box: the nearest point of it, and how far, each operation rounded. Definitions only.
-use Rattle.std.specs.Prelude.{Bool, cond, ◌&&◌, Float}
+use Rattle.std.specs.Prelude.{Bool, cond, ◌&&◌, Float, Result, Ok, Err}
 use Rattle.std.specs.Float.Ieee.{lt, le}
 use Rattle.types.specs.declared.shape.Vec2.{Vec2}
 use Rattle.types.specs.declared.shape.Aabb2.{Aabb2}
-use Rattle.types.specs.declared.answer.Nearest.{Nearest}
-use Rattle.types.specs.declared.answer.Nearest.TheVariants.{Some, Refused}
+use Rattle.types.specs.declared.refusal.Refusal.{Refusal}
+use Rattle.types.specs.declared.refusal.Refusal.TheVariants.{Order}
 use Rattle.float.specs.Rounded.{◌⊕◌, ◌⊖◌, ◌⊗◌, +0, half}
 use Rattle.float.specs.Values.{abs_of, min_of, max_of, clamp_of}
 use Rattle.vec2.specs.Values.{length_of}
@@ -24,12 +24,12 @@ past_y b p = past_of b.min_y b.max_y p.y
 abbrev pub is_intersect_square_of : Aabb2 → Vec2 → Float → Bool
 is_intersect_square_of b p r = lt (max_of (past_x b p) (past_y b p)) r
 
--- refusal 5 where the box is not ordered, in x and then in y
-unfoldable pub nearest_point2_of : Aabb2 → Vec2 → Nearest
+-- Order where the box is not ordered, in x and then in y
+unfoldable pub nearest_point2_of : Aabb2 → Vec2 → Result Vec2 Refusal
 nearest_point2_of b p =
     cond (le b.min_x b.max_x && le b.min_y b.max_y)
-    (Some (record { x = clamp_of p.x b.min_x b.max_x; y = clamp_of p.y b.min_y b.max_y }))
-    (Refused 5)
+    (Ok (record { x = clamp_of p.x b.min_x b.max_x; y = clamp_of p.y b.min_y b.max_y }))
+    (Err Order)
 
 -- outside, the length of what lies past in each dimension; inside, the larger of the two, which is negative
 abbrev pub sdf_of : Aabb2 → Vec2 → Float

@@ -5,7 +5,7 @@ ghost use Rattle.std.specs.Prelude.{◌≡◌};
 ghost use Rattle.aabb.specs.Inside.{is_include_point_of};
 ghost use Rattle.aabb2_distance.specs.Distance.{past_of, is_intersect_square_of, nearest_point2_of, sdf_of};
 
-use types::{Aabb2, Nearest, Vec2};
+use types::{Aabb2, Refusal, Vec2};
 
 // Whether p is in the box, edges included. A NaN is outside.
 pub fn is_include_point2(b: Aabb2, p: Vec2) -> bool
@@ -29,18 +29,16 @@ pub fn is_intersect_square(b: Aabb2, p: Vec2, radius: f32) -> bool
 }
 
 // The point of the box nearest to p. A box that is not ordered in x, then in y, is refused.
-pub fn nearest_point2(b: Aabb2, p: Vec2) -> Nearest
+pub fn nearest_point2(b: Aabb2, p: Vec2) -> Result<Vec2, Refusal>
     ensures { result ≡ nearest_point2_of b p }
 {
-    if b.min_x <= b.max_x {
-        if b.min_y <= b.max_y {
-            return Nearest::Some(Vec2 {
-                x: float::clamp(p.x, b.min_x, b.max_x),
-                y: float::clamp(p.y, b.min_y, b.max_y),
-            });
-        }
+    if b.min_x <= b.max_x && b.min_y <= b.max_y {
+        return Ok(Vec2 {
+            x: float::clamp(p.x, b.min_x, b.max_x),
+            y: float::clamp(p.y, b.min_y, b.max_y),
+        });
     }
-    Nearest::Refused(types::refusal::ORDER)
+    Err(Refusal::Order)
 }
 
 // The signed distance to the box's edge: negative inside.

@@ -1,10 +1,10 @@
 -- Boxes made from points and from other boxes, each operation rounded. Definitions only.
-use Rattle.std.specs.Prelude.{cond, Float}
+use Rattle.std.specs.Prelude.{cond, Float, Result, Ok, Err}
 use Rattle.std.specs.Float.Ieee.{le}
 use Rattle.types.specs.declared.shape.Vec2.{Vec2}
 use Rattle.types.specs.declared.shape.Aabb2.{Aabb2}
-use Rattle.types.specs.declared.answer.Boxed.{Boxed}
-use Rattle.types.specs.declared.answer.Boxed.TheVariants.{Some, Refused}
+use Rattle.types.specs.declared.refusal.Refusal.{Refusal}
+use Rattle.types.specs.declared.refusal.Refusal.TheVariants.{Radius}
 use Rattle.float.specs.Rounded.{◌⊕◌, ◌⊖◌, +0}
 use Rattle.float.specs.Values.{min_of, max_of}
 
@@ -25,9 +25,9 @@ from_two_aabbs_of a b =
 abbrev pub from_two_points_of : Vec2 → Vec2 → Float → Aabb2
 from_two_points_of p q r = from_two_aabbs_of (around_of p r) (around_of q r)
 
--- refusal 6 where the radius is not at least 0, which no NaN is
-unfoldable pub from_point_of : Vec2 → Float → Boxed
-from_point_of p r = cond (le +0 r) (Some (around_of p r)) (Refused 6)
+-- Radius where the radius is not at least 0, which no NaN is
+unfoldable pub from_point_of : Vec2 → Float → Result Aabb2 Refusal
+from_point_of p r = cond (le +0 r) (Ok (around_of p r)) (Err Radius)
 
-unfoldable pub add_point_of : Aabb2 → Vec2 → Float → Boxed
-add_point_of b p r = cond (le +0 r) (Some (from_two_aabbs_of b (around_of p r))) (Refused 6)
+unfoldable pub add_point_of : Aabb2 → Vec2 → Float → Result Aabb2 Refusal
+add_point_of b p r = cond (le +0 r) (Ok (from_two_aabbs_of b (around_of p r))) (Err Radius)

@@ -4,7 +4,7 @@
 ghost use Rattle.std.specs.Prelude.{◌≡◌};
 ghost use Rattle.aabb2_from.specs.From.{from_point_of, from_two_points_of, from_two_aabbs_of, add_point_of, around_of};
 
-use types::{Aabb2, Boxed, Vec2};
+use types::{Aabb2, Refusal, Vec2};
 
 // The square around a point, whatever the radius.
 fn around(p: Vec2, radius: f32) -> Aabb2
@@ -19,13 +19,13 @@ fn around(p: Vec2, radius: f32) -> Aabb2
 }
 
 // The box around a point, radius away on each side. A radius that is not at least 0 is refused.
-pub fn from_point(p: Vec2, radius: f32) -> Boxed
+pub fn from_point(p: Vec2, radius: f32) -> Result<Aabb2, Refusal>
     ensures { result ≡ from_point_of p radius }
 {
     if radius >= 0.0 {
-        return Boxed::Some(around(p, radius));
+        return Ok(around(p, radius));
     }
-    Boxed::Refused(types::refusal::RADIUS)
+    Err(Refusal::Radius)
 }
 
 pub fn from_two_aabbs(a: Aabb2, b: Aabb2) -> Aabb2
@@ -47,11 +47,11 @@ pub fn from_two_points(p: Vec2, q: Vec2, radius: f32) -> Aabb2
 }
 
 // The box widened so that it has the point and radius around it. A radius that is not at least 0 is refused.
-pub fn add_point(b: Aabb2, p: Vec2, radius: f32) -> Boxed
+pub fn add_point(b: Aabb2, p: Vec2, radius: f32) -> Result<Aabb2, Refusal>
     ensures { result ≡ add_point_of b p radius }
 {
     if radius >= 0.0 {
-        return Boxed::Some(from_two_aabbs(b, around(p, radius)));
+        return Ok(from_two_aabbs(b, around(p, radius)));
     }
-    Boxed::Refused(types::refusal::RADIUS)
+    Err(Refusal::Radius)
 }

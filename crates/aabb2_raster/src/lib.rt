@@ -4,7 +4,7 @@
 ghost use Rattle.std.specs.Prelude.{◌≡◌, ◌≤◌};
 ghost use Rattle.aabb2_raster.specs.Raster.{first_pixel_of, end_pixel_of, rasterize_of};
 
-use types::{Aabb2, Pixels};
+use types::{Aabb2, Pixels, Refusal};
 
 // The first pixel whose centre is not below low, from 0 on.
 fn first_pixel(low: f32) -> usize
@@ -21,19 +21,18 @@ fn end_pixel(high: f32, side: usize) -> usize
     rounding::to_usize(float::min(rounding::ceil(high - 0.5), side as f32))
 }
 
-// Pixel centres in the box, low edge in and high edge out. An image side above 16,384 is refused.
-pub fn rasterize(b: Aabb2, width: usize, height: usize) -> Pixels
+// Pixel centres in the box, low edge in and high edge out. An image side above 16,384 is refused. The sides stand by themselves, as in the source
+// and in C.
+pub fn rasterize(b: Aabb2, width: usize, height: usize) -> Result<Pixels, Refusal>
     ensures { result ≡ rasterize_of b width height }
 {
-    if width <= 16384 {
-        if height <= 16384 {
-            return Pixels::Some {
-                x0: first_pixel(b.min_x),
-                y0: first_pixel(b.min_y),
-                x1: end_pixel(b.max_x, width),
-                y1: end_pixel(b.max_y, height),
-            };
-        }
+    if width <= 16384 && height <= 16384 {
+        return Ok(Pixels {
+            x0: first_pixel(b.min_x),
+            y0: first_pixel(b.min_y),
+            x1: end_pixel(b.max_x, width),
+            y1: end_pixel(b.max_y, height),
+        });
     }
-    Pixels::Refused(types::refusal::SIZE)
+    Err(Refusal::Size)
 }

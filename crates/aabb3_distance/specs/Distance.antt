@@ -1,13 +1,10 @@
 -- How far a box of space is from a point, and whether it may be near another box, each operation rounded. Definitions only.
-use Rattle.std.specs.Prelude.{true, false, not, Float}
+use Rattle.std.specs.Prelude.{Bool, true, false, not, List, [], ◌∷◌, Float, Option, None, Some, Result, Ok, Err}
 use Rattle.std.specs.Float.Ieee.{lt}
 use Rattle.types.specs.declared.shape.Vec3.{Vec3}
 use Rattle.types.specs.declared.shape.Range.{Range}
 use Rattle.types.specs.declared.shape.Aabb3.{Aabb3}
-use Rattle.types.specs.declared.answer.Extent.{Extent}
-use Rattle.types.specs.declared.answer.Extent.TheVariants as extent
-use Rattle.types.specs.declared.answer.Verdict.{Verdict}
-use Rattle.types.specs.declared.answer.Verdict.TheVariants.{Some, Refused}
+use Rattle.types.specs.declared.refusal.Refusal.{Refusal}
 use Rattle.float.specs.Rounded.{◌⊕◌, ◌⊖◌, ◌⊗◌, +0}
 use Rattle.float.specs.Values.{min_of, max_of}
 use Rattle.range.specs.Values.{distance_to_range_of}
@@ -25,30 +22,34 @@ min_sq_dist_to_point3_of b p =
     ⊕ square_of b.min_z b.max_z p.z
 
 -- ranges that touch or overlap are near, and so are those whose gap is not above the threshold, as none is above a NaN
-unfoldable pub gap_answer : Float → Extent → Verdict
-gap_answer threshold extent.None = Some true
-gap_answer threshold (extent.Some gap) = Some (not (lt threshold gap))
-gap_answer threshold (extent.Refused n) = Refused n
+unfoldable pub gap_answer : Float → Result (Option Float) Refusal → Result Bool Refusal
+gap_answer threshold (Ok None) = Ok true
+gap_answer threshold (Ok (Some gap)) = Ok (not (lt threshold gap))
+gap_answer threshold (Err refusal) = Err refusal
 
-abbrev pub near_of : Range → Range → Float → Verdict
+abbrev pub near_of : Range → Range → Float → Result Bool Refusal
 near_of a b threshold = gap_answer threshold (distance_to_range_of a b)
 
 -- the first answer where it is a no or a refusal, and else the second
-unfoldable pub unless_yes_of : Verdict → Verdict → Verdict
-unless_yes_of (Some true) second = second
-unless_yes_of (Some false) second = Some false
-unless_yes_of (Refused n) second = Refused n
+unfoldable pub unless_yes_of : Result Bool Refusal → Result Bool Refusal → Result Bool Refusal
+unless_yes_of (Ok true) second = second
+unless_yes_of (Ok false) second = Ok false
+unless_yes_of (Err refusal) second = Err refusal
 
-abbrev pub range_x : Aabb3 → Range
-range_x b = record { low = b.min_x; high = b.max_x }
+abbrev pub range_x_of : Aabb3 → Range
+range_x_of b = record { low = b.min_x; high = b.max_x }
 
-abbrev pub range_y : Aabb3 → Range
-range_y b = record { low = b.min_y; high = b.max_y }
+abbrev pub range_y_of : Aabb3 → Range
+range_y_of b = record { low = b.min_y; high = b.max_y }
 
-abbrev pub range_z : Aabb3 → Range
-range_z b = record { low = b.min_z; high = b.max_z }
+abbrev pub range_z_of : Aabb3 → Range
+range_z_of b = record { low = b.min_z; high = b.max_z }
 
--- in x, y and z: refusal 5 at the first dimension reached with a range not ordered
-abbrev pub is_possible_distance_of : Aabb3 → Aabb3 → Float → Verdict
+-- in x, y and z
+abbrev pub ranges_of : Aabb3 → List Range
+ranges_of b = range_x_of b ∷ range_y_of b ∷ range_z_of b ∷ []
+
+-- in x, y and z: Order at the first dimension reached with a range not ordered
+abbrev pub is_possible_distance_of : Aabb3 → Aabb3 → Float → Result Bool Refusal
 is_possible_distance_of a b t =
-    unless_yes_of (near_of (range_x a) (range_x b) t) (unless_yes_of (near_of (range_y a) (range_y b) t) (near_of (range_z a) (range_z b) t))
+    unless_yes_of (near_of (range_x_of a) (range_x_of b) t) (unless_yes_of (near_of (range_y_of a) (range_y_of b) t) (near_of (range_z_of a) (range_z_of b) t))

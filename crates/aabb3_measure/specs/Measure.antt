@@ -1,9 +1,9 @@
 -- A box's edges and corners, and the box scaled about its centre, each operation rounded. Definitions only.
-use Rattle.std.specs.Prelude.{List, [], ◌∷◌, ℕ, zero, suc, Float}
+use Rattle.std.specs.Prelude.{List, [], ◌∷◌, ℕ, zero, suc, Float, Result, Ok, Err}
 use Rattle.types.specs.declared.shape.Vec3.{Vec3}
 use Rattle.types.specs.declared.shape.Aabb3.{Aabb3}
-use Rattle.types.specs.declared.answer.Corner.{Corner}
-use Rattle.types.specs.declared.answer.Corner.TheVariants.{Some, Refused}
+use Rattle.types.specs.declared.refusal.Refusal.{Refusal}
+use Rattle.types.specs.declared.refusal.Refusal.TheVariants.{Corner}
 use Rattle.float.specs.Rounded.{◌⊕◌, ◌⊖◌, ◌⊗◌, half}
 use Rattle.float.specs.Values.{greater_of}
 use Rattle.vec3.specs.Values.{vec3}
@@ -50,11 +50,11 @@ corners_of b =
     ∷ vec3 b.min_x b.max_y b.max_z
     ∷ []
 
--- refusal 17 for a number that no corner has
-unfoldable pub corner_at : List Vec3 → ℕ → Corner
-corner_at [] n = Refused 17
-corner_at (p ∷ ps) zero = Some p
+-- Corner for a number that no corner has
+unfoldable pub corner_at : List Vec3 → ℕ → Result Vec3 Refusal
+corner_at [] n = Err Corner
+corner_at (p ∷ ps) zero = Ok p
 corner_at (p ∷ ps) (suc n) = corner_at ps n
 
-unfoldable pub xyz_from_hex_index_of : Aabb3 → ℕ → Corner
+unfoldable pub xyz_from_hex_index_of : Aabb3 → ℕ → Result Vec3 Refusal
 xyz_from_hex_index_of b index = corner_at (corners_of b) index

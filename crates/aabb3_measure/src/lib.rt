@@ -4,10 +4,9 @@
 ghost use Rattle.std.specs.Prelude.{◌≡◌};
 ghost use Rattle.vec3.specs.Values.{vec3};
 ghost use Rattle.aabb_3.specs.Inside.{center_of};
-ghost use Rattle.types.specs.declared.answer.Corner.TheVariants as corner;
 ghost use Rattle.aabb3_measure.specs.Measure.{size_of, scale_of, volume_of, max_edge_size_of, xyz_from_hex_index_of};
 
-use types::{Aabb3, Corner, Vec3};
+use types::{Aabb3, Refusal, Vec3};
 
 pub fn center(b: Aabb3) -> Vec3
     ensures { result ≡ center_of b }
@@ -56,26 +55,26 @@ pub fn max_edge_size(b: Aabb3) -> f32
     )
 }
 
-fn corner(x: f32, y: f32, z: f32) -> Corner
-    ensures { result ≡ corner.Some (vec3 x y z) }
+fn corner(x: f32, y: f32, z: f32) -> Vec3
+    ensures { result ≡ vec3 x y z }
 {
-    Corner::Some(Vec3 { x, y, z })
+    Vec3 { x, y, z }
 }
 
 // The corner of a number: 0 to 3 round the face of low z from the low corner, x first, then 4 to 7 round the face of high z. A number
 // above 7 is refused.
-pub fn xyz_from_hex_index(b: Aabb3, index: usize) -> Corner
+pub fn xyz_from_hex_index(b: Aabb3, index: usize) -> Result<Vec3, Refusal>
     ensures { result ≡ xyz_from_hex_index_of b index }
 {
     match index {
-        0 => corner(b.min_x, b.min_y, b.min_z),
-        1 => corner(b.max_x, b.min_y, b.min_z),
-        2 => corner(b.max_x, b.max_y, b.min_z),
-        3 => corner(b.min_x, b.max_y, b.min_z),
-        4 => corner(b.min_x, b.min_y, b.max_z),
-        5 => corner(b.max_x, b.min_y, b.max_z),
-        6 => corner(b.max_x, b.max_y, b.max_z),
-        7 => corner(b.min_x, b.max_y, b.max_z),
-        _ => Corner::Refused(types::refusal::CORNER),
+        0 => Ok(corner(b.min_x, b.min_y, b.min_z)),
+        1 => Ok(corner(b.max_x, b.min_y, b.min_z)),
+        2 => Ok(corner(b.max_x, b.max_y, b.min_z)),
+        3 => Ok(corner(b.min_x, b.max_y, b.min_z)),
+        4 => Ok(corner(b.min_x, b.min_y, b.max_z)),
+        5 => Ok(corner(b.max_x, b.min_y, b.max_z)),
+        6 => Ok(corner(b.max_x, b.max_y, b.max_z)),
+        7 => Ok(corner(b.min_x, b.max_y, b.max_z)),
+        _ => Err(Refusal::Corner),
     }
 }

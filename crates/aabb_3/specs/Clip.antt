@@ -2,7 +2,7 @@
 use Rattle.std.specs.Prelude.{List, [], ◌∷◌}
 use Rattle.types.specs.declared.shape.Vec3.{Vec3}
 use Rattle.types.specs.declared.shape.Aabb3.{Aabb3}
-use Rattle.types.specs.declared.answer.Interval.{Interval}
+use Rattle.slabs.specs.declared.Interval.{Interval}
 use Rattle.slabs.specs.declared.Slab.{Slab}
 use Rattle.slabs.specs.Clip.{clip_over, ahead_of}
 

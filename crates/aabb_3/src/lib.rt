@@ -2,60 +2,53 @@
 #![tactic(auto, unfolding(crate::specs::Clip::intersections_against_line_of, crate::specs::Clip::intersections_against_ray_of, crate::specs::Inside::is_include_point_of, slabs::specs::Clip::clip_over, slabs::specs::Clip::narrow_all))]
 
 ghost use Rattle.std.specs.Prelude.{◌≡◌};
-ghost use Rattle.aabb_3.specs.Clip.{slab_x_of, slab_y_of, slab_z_of, intersections_against_line_of, intersections_against_ray_of};
+ghost use Rattle.aabb_3.specs.Clip.{slabs, intersections_against_line_of, intersections_against_ray_of};
+ghost use Rattle.slabs.specs.Promise.{IsLineAnswer, IsRayAnswer};
 ghost use Rattle.aabb_3.specs.Inside.{is_include_point_of, center_of};
 
-use slabs::Slab;
-use types::{Aabb3, Interval, Vec3};
+use slabs::{Interval, Slab};
+use types::{Aabb3, Vec3};
 
-// The box and the line, seen in one dimension.
-fn slab_x(b: Aabb3, origin: Vec3, direction: Vec3) -> Slab
-    ensures { result ≡ slab_x_of b origin direction }
+// The box and the line, dimension by dimension.
+fn slabs(b: Aabb3, origin: Vec3, direction: Vec3) -> [Slab; 3]
+    ensures { result ≡ slabs b origin direction }
 {
-    Slab {
-        low: b.min_x,
-        high: b.max_x,
-        origin: origin.x,
-        direction: direction.x,
-    }
-}
-
-fn slab_y(b: Aabb3, origin: Vec3, direction: Vec3) -> Slab
-    ensures { result ≡ slab_y_of b origin direction }
-{
-    Slab {
-        low: b.min_y,
-        high: b.max_y,
-        origin: origin.y,
-        direction: direction.y,
-    }
-}
-
-fn slab_z(b: Aabb3, origin: Vec3, direction: Vec3) -> Slab
-    ensures { result ≡ slab_z_of b origin direction }
-{
-    Slab {
-        low: b.min_z,
-        high: b.max_z,
-        origin: origin.z,
-        direction: direction.z,
-    }
+    [
+        Slab {
+            low: b.min_x,
+            high: b.max_x,
+            origin: origin.x,
+            direction: direction.x,
+        },
+        Slab {
+            low: b.min_y,
+            high: b.max_y,
+            origin: origin.y,
+            direction: direction.y,
+        },
+        Slab {
+            low: b.min_z,
+            high: b.max_z,
+            origin: origin.z,
+            direction: direction.z,
+        },
+    ]
 }
 
 // The parameters at which the line origin + t * direction enters and leaves the box.
 pub fn intersections_against_line(b: Aabb3, origin: Vec3, direction: Vec3) -> Interval
-    ensures { result ≡ intersections_against_line_of b origin direction }
+    ensures answers { result ≡ intersections_against_line_of b origin direction }
+    ensures means { IsLineAnswer (slabs b origin direction) result }
 {
-    let x = slabs::narrowed(slab_x(b, origin, direction), slabs::all_finite());
-    let y = slabs::narrowed(slab_y(b, origin, direction), x);
-    slabs::ordered(slabs::narrowed(slab_z(b, origin, direction), y))
+    slabs::clip(&slabs(b, origin, direction))
 }
 
 // The line's answer where it leaves the box at 0 or later. The entry is not raised to 0.
 pub fn intersections_against_ray(b: Aabb3, origin: Vec3, direction: Vec3) -> Interval
-    ensures { result ≡ intersections_against_ray_of b origin direction }
+    ensures answers { result ≡ intersections_against_ray_of b origin direction }
+    ensures means { IsRayAnswer (slabs b origin direction) result }
 {
-    slabs::ahead(intersections_against_line(b, origin, direction))
+    intersections_against_line(b, origin, direction).ahead()
 }
 
 // Whether p is in the box, faces included. A NaN is outside.
@@ -67,6 +60,7 @@ pub fn is_include_point(b: Aabb3, p: Vec3) -> bool
         & slabs::within(b.min_z, b.max_z, p.z)
 }
 
+// Written out, as in the plane: over a list of components it would be no plainer.
 pub fn center(b: Aabb3) -> Vec3
     ensures { result ≡ center_of b }
 {

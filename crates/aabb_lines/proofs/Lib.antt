@@ -1,3 +1,2 @@
-pub mod Branchless
 pub mod Results
 pub mod Answer

@@ -1,28 +1,31 @@
 -- The results of a list of lines: how many entries they are, and that one line more adds its own behind them.
 use mathlib.Core.Path.{◌≡◌, refl, sym, ap, ◌∙◌}
 use mathlib.Core.List.{List, [], ◌∷◌, ◌++◌, append_assoc, append-nil}
-use Prim.Native.Nat.{ℕ, zero, suc, ◌+◌, ◌*◌, ◌≤◌}
+use Prim.Native.Nat.{ℕ, zero, suc, ◌+◌, ◌*◌, ◌<◌, ◌≤◌}
+use native.Mathlib.Numerals.{add-one}
 use native.Mathlib.Omega.{arith}
-use lib.ListN.{length, take, drop, get_or, length-append}
-use lib.Seq.{sets, take-add, drop-cons, length-take-le}
+use lib.ListN.{length, take, drop, get_or, set, length-append}
+use lib.Seq.{sets, take_all}
 use lib.Ieee.{Float, nan}
+use Rattle.std.specs.Prelude.{flat_map}
+use Rattle.std.specs.Simd.{first_chunks}
 use Rattle.types.specs.declared.shape.Aabb2.{Aabb2}
-use Rattle.types.specs.declared.answer.Interval.{Interval}
-use Rattle.types.specs.declared.answer.Interval.TheVariants.{Miss, Hit}
+use Rattle.slabs.specs.declared.Interval.{Interval}
+use Rattle.slabs.specs.declared.Interval.TheVariants.{Miss, Hit}
 use Rattle.lists.proofs.Fill.{store_all}
 use Rattle.aabb.specs.Clip.{intersections_against_line_of}
 use Rattle.aabb_lines.specs.Results.{vector, encoded_of, width, results_of}
 
 -- a list of n times four floats, from the front
-by_four : (P : List Float → Type 0) → P [] → ((x y u v : Float) (l : List Float) → P l → P (x ∷ y ∷ u ∷ v ∷ l))
-    → (n : ℕ) (l : List Float) → length l ≡ 4 * n → P l
+by_four : (P : ℕ → List Float → Type 0) → P 0 [] → ((n : ℕ) (x y u v : Float) (l : List Float) → P n l → P (suc n) (x ∷ y ∷ u ∷ v ∷ l))
+    → (n : ℕ) (l : List Float) → length l ≡ 4 * n → P n l
 by_four P none more zero [] e = none
 by_four P none more zero (x ∷ l) e = absurd (omega (arith, e))
 by_four P none more (suc n) [] e = absurd (omega (arith, e))
 by_four P none more (suc n) (x ∷ []) e = absurd (omega (arith, e))
 by_four P none more (suc n) (x ∷ y ∷ []) e = absurd (omega (arith, e))
 by_four P none more (suc n) (x ∷ y ∷ u ∷ []) e = absurd (omega (arith, e))
-by_four P none more (suc n) (x ∷ y ∷ u ∷ v ∷ l) e = more x y u v l (by_four P none more n l (omega (arith, e)))
+by_four P none more (suc n) (x ∷ y ∷ u ∷ v ∷ l) e = more n x y u v l (by_four P none more n l (omega (arith, e)))
 
 length_encoded : (i : Interval) → length (encoded_of i) ≡ width
 unfolding encoded_of
@@ -36,69 +39,80 @@ module _ (b : Aabb2) where
   -- `width` entries a line
   pub length_results : (n : ℕ) (l : List Float) → length l ≡ 4 * n → length (results_of b l) ≡ width * n
   unfolding results_of
-  length_results n l e = omega (arith, e, by_four (λ (l : List Float). 4 * length (results_of b l) ≡ width * length l) refl more n l e)
+  length_results = by_four (λ (n : ℕ) (l : List Float). length (results_of b l) ≡ width * n) refl more
     where
-      more : (x y u v : Float) (l : List Float) → 4 * length (results_of b l) ≡ width * length l
-          → 4 * length (results_of b (x ∷ y ∷ u ∷ v ∷ l)) ≡ width * length (x ∷ y ∷ u ∷ v ∷ l)
-      more x y u v l h =
+      more : (n : ℕ) (x y u v : Float) (l : List Float) → length (results_of b l) ≡ width * n → length (results_of b (x ∷ y ∷ u ∷ v ∷ l)) ≡ width * suc n
+      more n x y u v l h =
           omega (arith, h, length-append (first x y u v) (results_of b l), length_encoded (intersections_against_line_of b (vector x y) (vector u v)))
 
-  -- whole lines, and behind them any floats
-  results_append : (n : ℕ) (s t : List Float) → length s ≡ 4 * n → results_of b (s ++ t) ≡ results_of b s ++ results_of b t
+  -- i is what the single line routine answers of the line's four floats, and r is i's entries
+  pub one_line : (l : List Float) (i : Interval) (r : List Float) → length l ≡ 4 → r ≡ encoded_of i
+      → i ≡ intersections_against_line_of b (vector (get_or l 0 nan) (get_or l 1 nan)) (vector (get_or l 2 nan) (get_or l 3 nan)) → r ≡ results_of b l
   unfolding results_of
-  results_append n s t e = by_four (λ (s : List Float). results_of b (s ++ t) ≡ results_of b s ++ results_of b t) refl more n s e
+  one_line [] i r e f g = absurd (omega (arith, e))
+  one_line (x ∷ []) i r e f g = absurd (omega (arith, e))
+  one_line (x ∷ y ∷ []) i r e f g = absurd (omega (arith, e))
+  one_line (x ∷ y ∷ u ∷ []) i r e f g = absurd (omega (arith, e))
+  one_line (x ∷ y ∷ u ∷ v ∷ []) i r e f g = f ∙ ap encoded_of g ∙ sym (append-nil (first x y u v))
+  one_line (x ∷ y ∷ u ∷ v ∷ w ∷ l) i r e f g = absurd (omega (arith, e))
+
+  -- the results of the lines, one by one
+  pub all_lines : (n : ℕ) (l : List Float) → length l ≡ 4 * n → flat_map (results_of b) (first_chunks 4 n l) ≡ results_of b l
+  unfolding results_of
+  all_lines = by_four (λ (n : ℕ) (l : List Float). flat_map (results_of b) (first_chunks 4 n l) ≡ results_of b l) refl more
     where
-      more : (x y u v : Float) (l : List Float) → results_of b (l ++ t) ≡ results_of b l ++ results_of b t
-          → results_of b (x ∷ y ∷ u ∷ v ∷ l ++ t) ≡ results_of b (x ∷ y ∷ u ∷ v ∷ l) ++ results_of b t
-      more x y u v l h = ap (λ (r : List Float). first x y u v ++ r) h ∙ sym (append_assoc (first x y u v) (results_of b l) (results_of b t))
-
-  -- ---- one line
-
-  four : (l : List Float) (at : ℕ) → at + 4 ≤ length l
-      → take 4 (drop at l) ≡ get_or l at nan ∷ get_or l (at + 1) nan ∷ get_or l (at + 2) nan ∷ get_or l (at + 3) nan ∷ []
-  four l at h =
-      let one : at + 1 ≡ suc at = omega arith in
-      let two : at + 2 ≡ suc (suc at) = omega arith in
-      let three : at + 3 ≡ suc (suc (suc at)) = omega arith in
-      rw (
-        one,
-        two,
-        three,
-        drop-cons l at nan (omega (arith, h)),
-        drop-cons l (suc at) nan (omega (arith, h)),
-        drop-cons l (suc (suc at)) nan (omega (arith, h)),
-        drop-cons l (suc (suc (suc at))) nan (omega (arith, h)),
-      )
-
-  pub one_line : (l : List Float) (at : ℕ) → at + 4 ≤ length l
-      → first (get_or l at nan) (get_or l (at + 1) nan) (get_or l (at + 2) nan) (get_or l (at + 3) nan) ≡ results_of b (take 4 (drop at l))
-  unfolding results_of
-  one_line l at h = rw (four l at h) (sym (append-nil (first (get_or l at nan) (get_or l (at + 1) nan) (get_or l (at + 2) nan) (get_or l (at + 3) nan))))
+      more : (n : ℕ) (x y u v : Float) (l : List Float) → flat_map (results_of b) (first_chunks 4 n l) ≡ results_of b l
+          → flat_map (results_of b) (first_chunks 4 (suc n) (x ∷ y ∷ u ∷ v ∷ l)) ≡ results_of b (x ∷ y ∷ u ∷ v ∷ l)
+      more n x y u v l h = ap (λ (r : List Float). r ++ flat_map (results_of b) (first_chunks 4 n l)) (append-nil (first x y u v)) ∙ ap (λ (r : List Float). first x y u v ++ r) h
 
   -- ---- a loop over the lines
 
-  -- the results of the first n lines, and behind them what stood there
-  abbrev pub over : List Float → ℕ → List Float → List Float
-  over lines n l = results_of b (take (4 * n) lines) ++ drop (width * n) l
+  -- l is what the list held, and l' has the results of the first n lines in it
+  pub record Written (lines : List (List Float)) (n : ℕ) (l l' : List Float) : Type 0 where
+    pub written : l' ≡ flat_map (results_of b) (take n lines) ++ drop (width * n) l
+    pub counted : length (flat_map (results_of b) (take n lines)) ≡ width * n
 
-  pub none_yet : (lines l : List Float) → l ≡ over lines 0 l
-  unfolding results_of
-  none_yet lines l = refl
+  pub none_yet : (lines : List (List Float)) (l : List Float) → Written lines 0 l l
+  none_yet lines l = record { written = refl; counted = refl }
 
-  length_first : (lines : List Float) (n : ℕ) → 4 * n ≤ length lines → length (results_of b (take (4 * n) lines)) ≡ width * n
-  length_first lines n h = length_results n (take (4 * n) lines) (length-take-le (4 * n) lines h)
+  one_more : (f : List Float → List Float) (lines : List (List Float)) (n : ℕ) (d : List Float) → n < length lines
+      → flat_map f (take (suc n) lines) ≡ flat_map f (take n lines) ++ f (get_or lines n d)
+  one_more f [] n d h = absurd (omega arith)
+  one_more f (l ∷ lines) zero d h = append-nil (f l)
+  one_more f (l ∷ lines) (suc n) d h =
+      ap (λ (r : List Float). f l ++ r) (one_more f lines n d (omega arith)) ∙ sym (append_assoc (f l) (flat_map f (take n lines)) (f (get_or lines n d)))
 
-  -- one line's entries stored behind them
-  pub next : (lines : List Float) (n : ℕ) (l es : List Float) → 4 * n + 4 ≤ length lines → width * n + width ≤ length l → length es ≡ width
-      → es ≡ results_of b (take 4 (drop (4 * n) lines)) → sets (over lines n l) (width * n) es ≡ over lines (n + 1) l
-  next lines n l es h k w e =
-      let done = results_of b (take (4 * n) lines) in
-      let whole = length-take-le (4 * n) lines (omega (arith, h)) in
-      let place : width * n + length es ≡ width * (n + 1) = omega (arith, w) in
-      let longer : 4 * n + 4 ≡ 4 * (n + 1) = omega arith in
-      store_all es done l (width * n) (length_first lines n (omega (arith, h))) (omega (arith, w, k))
-      ∙ ap (λ (r : List Float). (done ++ r) ++ drop (width * n + length es) l) e
-      ∙ ap (λ (r : List Float). r ++ drop (width * n + length es) l) (sym (results_append n (take (4 * n) lines) (take 4 (drop (4 * n) lines)) whole))
-      ∙ ap (λ (r : List Float). results_of b r ++ drop (width * n + length es) l) (sym (take-add (4 * n) 4 lines))
-      ∙ ap (λ (k : ℕ). results_of b (take k lines) ++ drop (width * n + length es) l) longer
-      ∙ ap (λ (k : ℕ). results_of b (take (4 * (n + 1)) lines) ++ drop k l) place
+  three : (l t : List Float) (at : ℕ) → length t ≡ width → set (set (set l at (get_or t 0 nan)) (at + 1) (get_or t 1 nan)) (at + 2) (get_or t 2 nan) ≡ sets l at t
+  three l [] at e = absurd (omega (arith, e))
+  three l (x ∷ []) at e = absurd (omega (arith, e))
+  three l (x ∷ y ∷ []) at e = absurd (omega (arith, e))
+  three l (x ∷ y ∷ z ∷ []) at e =
+      let second : at + 1 ≡ suc at = omega arith in
+      let third : at + 2 ≡ suc (suc at) = omega arith in
+      ap (λ (k : ℕ). set (set (set l at x) k y) (at + 2) z) second ∙ ap (λ (k : ℕ). set (set (set l at x) (suc at) y) k z) third
+  three l (x ∷ y ∷ z ∷ w ∷ t) at e = absurd (omega (arith, e))
+
+  -- one line's result stored behind them
+  pub next_line : (lines : List (List Float)) (n : ℕ) (l l' t d : List Float) → n < length lines → width * length lines ≤ length l → length t ≡ width
+      → t ≡ results_of b (get_or lines n d) → Written lines n l l'
+      → Written lines (n + 1) l (set (set (set l' (width * n) (get_or t 0 nan)) (width * n + 1) (get_or t 1 nan)) (width * n + 2) (get_or t 2 nan))
+  next_line lines n l l' t d h room size is w =
+      let done = flat_map (results_of b) (take n lines) in
+      let more : flat_map (results_of b) (take (n + 1) lines) ≡ done ++ t =
+      ap (λ (k : ℕ). flat_map (results_of b) (take k lines)) (add-one n) ∙ one_more (results_of b) lines n d h ∙ ap (λ (r : List Float). done ++ r) (sym is) in
+      let place : width * n + length t ≡ width * (n + 1) = omega (arith, size) in
+      record {
+        written =
+            three l' t (width * n) size
+            ∙ ap (λ (r : List Float). sets r (width * n) t) w.written
+            ∙ store_all t done l (width * n) w.counted (omega (arith, size, room, h))
+            ∙ ap (λ (k : ℕ). (done ++ t) ++ drop k l) place
+            ∙ ap (λ (r : List Float). r ++ drop (width * (n + 1)) l) (sym more);
+        counted = ap length more ∙ omega (arith, size, w.counted, length-append done t);
+      }
+
+  pub all_done : (lines : List (List Float)) (n : ℕ) (l l' : List Float) → n ≡ length lines → Written lines n l l'
+      → l' ≡ flat_map (results_of b) lines ++ drop (width * length lines) l
+  all_done lines n l l' e w =
+      w.written ∙ ap (λ (r : List (List Float)). flat_map (results_of b) r ++ drop (width * n) l) (take_all n lines (omega (arith, e)))
+      ∙ ap (λ (k : ℕ). flat_map (results_of b) lines ++ drop (width * k) l) e

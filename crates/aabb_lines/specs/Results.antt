@@ -2,8 +2,8 @@
 use Rattle.std.specs.Prelude.{List, [], ◌∷◌, ◌++◌, ℕ, Float}
 use Rattle.types.specs.declared.shape.Vec2.{Vec2}
 use Rattle.types.specs.declared.shape.Aabb2.{Aabb2}
-use Rattle.types.specs.declared.answer.Interval.{Interval}
-use Rattle.types.specs.declared.answer.Interval.TheVariants.{Miss, Hit}
+use Rattle.slabs.specs.declared.Interval.{Interval}
+use Rattle.slabs.specs.declared.Interval.TheVariants.{Miss, Hit}
 use Rattle.float.specs.Rounded.{+0, one}
 use Rattle.aabb.specs.Clip.{intersections_against_line_of}
 

@@ -1,16 +1,13 @@
 // A whole face: every line of a list against one box, in one call.
-#![tactic(auto)]
+#![tactic(auto, unfolding(crate::specs::Results::encoded_of))]
 
-mod clip;
-
-ghost use Rattle.std.specs.Prelude.{◌≡◌, ◌++◌, ◌+◌, ◌*◌, ◌≤◌, length, take, drop};
+ghost use Rattle.std.specs.Prelude.{◌≡◌, ◌++◌, ◌*◌, ◌≤◌, length, drop, flat_map};
 ghost use Rattle.lists.specs.Lent.{leaves};
-ghost use Rattle.aabb_lines.specs.Results.{width, results_of};
-ghost use Rattle.aabb_lines.specs.Structs.{entries_of};
+ghost use Rattle.aabb_lines.specs.Results.{width, encoded_of, results_of};
 ghost use Rattle.aabb_lines.specs.Answer.{intersections_against_lines_of};
 
-use crate::clip::Entries;
-use types::{Aabb2, Listed, Vec2};
+use slabs::Interval;
+use types::{Aabb2, Refusal, Vec2};
 
 // How many floats a line has.
 const LINE: usize = 4;
@@ -18,55 +15,58 @@ const LINE: usize = 4;
 // How many its result has: `width` of the definitions.
 const RESULT: usize = 3;
 
-// The result of the line whose floats begin at a place.
-fn result_at(b: Aabb2, lines: &[f32], at: usize) -> Entries
-    requires { at + 4 ≤ length lines.now }
-    ensures { entries_of result ≡ results_of b (take 4 (drop at lines.now)) }
+// 1 and the interval, or three zeros.
+fn encoded(i: Interval) -> [f32; RESULT]
+    ensures { result ≡ encoded_of i }
 {
-    let origin = Vec2 {
-        x: lines[at],
-        y: lines[at + 1],
-    };
-    let direction = Vec2 {
-        x: lines[at + 2],
-        y: lines[at + 3],
-    };
-    let x = crate::clip::narrowed(
-        aabb::slab_x(b, origin, direction),
-        crate::clip::all_finite(),
-    );
-    crate::clip::encoded(crate::clip::narrowed(aabb::slab_y(b, origin, direction), x))
+    match i {
+        Interval::Miss => [0.0, 0.0, 0.0],
+        Interval::Hit { tmin, tmax } => [1.0, tmin, tmax],
+    }
 }
 
-// The results of the first n lines. One counter, and one store to each place: that is what LLVM makes vectors of.
-fn write_results(b: Aabb2, lines: &[f32], n: usize, out: &mut [f32])
-    requires { (4 * n ≤ length lines.now) × (width * n ≤ length out.old) }
-    ensures { out.new ≡ results_of b (take (4 * n) lines.now) ++ drop (width * n) out.old }
+fn result_of(b: Aabb2, line: &[f32; LINE]) -> [f32; RESULT]
+    ensures { result ≡ results_of b line.now }
 {
-    let mut i = 0usize;
-    while i < n {
-        let r = result_at(b, lines, LINE * i);
-        out[RESULT * i] = r.hit;
-        out[RESULT * i + 1] = r.tmin;
-        out[RESULT * i + 2] = r.tmax;
-        i += 1;
+    let &[x, y, dx, dy] = line;
+    let origin = Vec2 { x, y };
+    let direction = Vec2 { x: dx, y: dy };
+    encoded(aabb::intersections_against_line(b, origin, direction))
+}
+
+// The lines' results, one behind the other. By index: no clause says what `chunks_exact_mut` leaves in a list, and a result copied whole
+// takes 8 % more instructions.
+#[tactic(auto, using(crate::proofs::Results::none_yet, crate::proofs::Results::all_done))]
+fn write_results(b: Aabb2, lines: &[[f32; LINE]], out: &mut [f32])
+    requires { width * length lines.now ≤ length out.old }
+    ensures { out.new ≡ flat_map (results_of b) lines.now ++ drop (width * length lines.now) out.old }
+{
+    for (i, line) in lines.iter().enumerate() {
+        let [hit, tmin, tmax] = result_of(b, line);
+        out[RESULT * i] = hit;
+        out[RESULT * i + 1] = tmin;
+        out[RESULT * i + 2] = tmax;
     }
 }
 
 // The results of all lines, into the first entries of `out`; the answer is how many entries they are. A list of lines with part of a line is
 // refused, and then a list too short for the results.
-pub fn intersections_against_lines(b: Aabb2, lines: &[f32], out: &mut [f32]) -> Listed
+pub fn intersections_against_lines(
+    b: Aabb2,
+    lines: &[f32],
+    out: &mut [f32],
+) -> Result<usize, Refusal>
     ensures answers { result ≡ intersections_against_lines_of b lines.now (length out.old) }
     ensures leaves { out.new ≡ leaves result (results_of b lines.now) out.old }
 {
-    if lines.len() % LINE != 0 {
-        return Listed::Refused(types::refusal::LINES);
+    let (whole, part) = lines.as_chunks::<LINE>();
+    if !part.is_empty() {
+        return Err(Refusal::Lines);
     }
-    let n = lines.len() / LINE;
-    let entries = RESULT * n;
+    let entries = RESULT * whole.len();
     if out.len() < entries {
-        return Listed::Refused(types::refusal::ROOM);
+        return Err(Refusal::Room);
     }
-    write_results(b, lines, n, out);
-    Listed::Count(entries)
+    write_results(b, whole, out);
+    Ok(entries)
 }

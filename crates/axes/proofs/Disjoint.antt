@@ -7,7 +7,8 @@ use mathlib.Core.List.Memᴰ
 use mathlib.Core.List.{List, [], ◌∷◌, Memᴰ}
 use lib.Ieee.{Float, lt, is_nan}
 use borrow.Author.Tests.{not-false}
-use Rattle.axes.specs.Axes.{range_of, apart_of, some, projections, separates, meets}
+use Rattle.std.specs.List.{list_any}
+use Rattle.axes.specs.Axes.{range_of, apart_of, projections, separates, meets}
 use Rattle.axes.specs.Disjoint.{+∞, -∞, NumberOf, NumberOfOr, Below, NumbersDecide, SeparatesIfDisjoint, SeparatingAxis}
 use Rattle.axes.proofs.Ends.{range_ends}
 use Rattle.float.proofs.Order.{lt_itself, lt_not, none_lower, none_higher}
@@ -49,20 +50,18 @@ numbers_decide xs ys a b m n = (λ h x y p q. h x y (inr p) (inr q), decided)
 -- ---- boxes
 
 module _ {A : Type 0} (f : A → Bool) where
-  pub some_is : (xs : List A) → some f xs ≡ true → (x : A) × Memᴰ x xs × (f x ≡ true)
-  unfolding some
+  pub some_is : (xs : List A) → list_any f xs ≡ true → (x : A) × Memᴰ x xs × (f x ≡ true)
   some_is [] h = absurd (true≢false (sym h))
-  some_is (x ∷ xs) h = elim (either (f x) (some f xs) h) [
+  some_is (x ∷ xs) h = elim (either (f x) (list_any f xs) h) [
     | inl e ↦ (x, Memᴰ.head refl, e)
     | inr k ↦ let r = some_is xs k in (r.0, Memᴰ.tail r.1, r.2)
   ]
 
-  pub is_some : (xs : List A) (x : A) → Memᴰ x xs → f x ≡ true → some f xs ≡ true
-  unfolding some
+  pub is_some : (xs : List A) (x : A) → Memᴰ x xs → f x ≡ true → list_any f xs ≡ true
   is_some [] x m h = absurd (Memᴰ.not-nil m)
   is_some (y ∷ xs) x m h = elim (Memᴰ.cases_cons m) [
-    | inl e ↦ or_true (f y) (some f xs) (inl (rw (← e) h))
-    | inr k ↦ or_true (f y) (some f xs) (inr (is_some xs x k h))
+    | inl e ↦ or_true (f y) (list_any f xs) (inl (rw (← e) h))
+    | inr k ↦ or_true (f y) (list_any f xs) (inr (is_some xs x k h))
   ]
 
 module _ {P : Type 0} (dot : P → P → Float) where

@@ -1,107 +1,51 @@
--- The ends of a folded range are the least and the greatest of the list's numbers: one law, on a fold that keeps the first number in an order.
-use mathlib.Core.Path.{◌≡◌, refl}
-use mathlib.Core.Logic.{inl, inr}
-use mathlib.Core.Bool.{Bool, true, false, cond}
+-- The ends of a folded range are the least and the greatest of the list's numbers, by the law on folds of crates/float.
+use Rattle.std.specs.Prelude.{◌≡◌, Bool, false, [], ◌∷◌, Contains, Float}
+use Rattle.std.specs.Float.Ieee.{lt, is_nan}
+use Rattle.std.proofs.Common.{refl, sym, inl, inr, arith}
+use Rattle.std.proofs.lemmas.List.Elements.{All-head, All-tail, All-contains}
+use mathlib.Core.List.{List}
 use mathlib.Core.List.Memᴰ
-use mathlib.Core.List.{List, [], ◌∷◌}
-use lib.Ieee.{Float, lt, is_nan}
-use Rattle.float.specs.Values.{min_of, max_of}
-use Rattle.float.specs.Folds.{fold_min, fold_max}
-use Rattle.float.proofs.Laws.{above_number, below_number}
+use mathlib.Core.List.Memᴰ.{Memᴰ}
+use Rattle.float.proofs.Folds.{IsFirst, after, contains_head, contains_tail, contains_cases, fold_min_first, fold_max_first, fold_min_number, fold_max_number}
 use Rattle.axes.specs.Axes.{range_of}
-use Rattle.axes.specs.Disjoint.{+∞, -∞, NumberOf, NumberOfOr, RangeEnds, OneRange}
-use Rattle.float.proofs.Order.{lt_itself, lt_one_way, lt_not}
+use Rattle.axes.specs.Disjoint.{+∞, -∞, NumberOfOr, RangeEnds, OneRange}
 
--- ---- folds
+-- ---- the first of a list's numbers
 
--- an order of numbers, and a fold that keeps the first in it
-record Fold (before : Float → Float → Bool) (fold : Float → List Float → Float) : Type 0 where
-  itself : (x : Float) → before x x ≡ false
-  one_way : (x y : Float) → before x y ≡ true → before y x ≡ false
-  not_before : (x y z : Float) → is_nan y ≡ false → before x y ≡ false → before y z ≡ false → before x z ≡ false
-  number : (x y : Float) → before x y ≡ true → is_nan x ≡ false
-  nothing : (a : Float) → fold a [] ≡ a
-  more : (a x : Float) (xs : List Float) → is_nan a ≡ false → fold a (x ∷ xs) ≡ fold (cond (before x a) x a) xs
+-- a place in the list, by its two definitions
+member : {x : Float} (xs : List Float) → Memᴰ x xs → Contains xs x
+member [] h = absurd (Memᴰ.not-nil h)
+member {x} (y ∷ ys) h = elim (Memᴰ.cases_cons h) [ inl e ↦ rw e (contains_head y ys) | inr k ↦ contains_tail y x ys (member ys k) ]
 
-module _ {before : Float → Float → Bool} {fold : Float → List Float → Float} (f : Fold before fold) where
-  -- m is one of the numbers of a list and a, and none of them comes before it
-  abbrev FirstOf : Float → List Float → Float → Type 0
-  FirstOf a xs m = NumberOfOr xs a m × ((x : Float) → NumberOfOr xs a x → before x m ≡ false)
+listed : {x : Float} (xs : List Float) → Contains xs x → Memᴰ x xs
+listed [] c = absurd (omega (arith, c.1))
+listed {x} (y ∷ ys) c = elim (contains_cases y x ys c) [ inl e ↦ Memᴰ.head (sym e) | inr k ↦ Memᴰ.tail (listed ys k) ]
 
-  later : {x m : Float} {xs : List Float} → NumberOf xs m → NumberOf (x ∷ xs) m
-  later n = record { listed = Memᴰ.tail n.listed; number = n.number }
+-- what a fold from a gives is a or a number of the list, and none of these comes before it
+first_of_numbers :
+    (before : Float → Float → Bool) (xs : List Float) (a m : Float) →
+    IsFirst before (a ∷ xs) m →
+    is_nan m ≡ false →
+    NumberOfOr xs a m × ((x : Float) → NumberOfOr xs a x → before x m ≡ false)
+first_of_numbers before xs a m f number = (one_of, none_before)
+  where
+    NotBefore : Float → Type 0
+    NotBefore x = before x m ≡ false
 
-  module _ (a x : Float) (xs : List Float) (m : Float) where
-    -- x comes before a
-    taken : before x a ≡ true → FirstOf x xs m → FirstOf a (x ∷ xs) m
-    taken h g = (inr (elim g.0 [ inl e ↦ here e | inr n ↦ later n ]), rest)
-      where
-        here : {y : Float} → y ≡ x → NumberOf (x ∷ xs) y
-        here e = record { listed = Memᴰ.head e; number = rw e (f.number x a h) }
+    one_of : NumberOfOr xs a m
+    one_of = elim (contains_cases a m xs f.0) [ inl e ↦ inl (sym e) | inr k ↦ inr (record { listed = listed xs k; number = number }) ]
 
-        rest : (y : Float) → NumberOfOr (x ∷ xs) a y → before y m ≡ false
-        rest y (inl e) = rw e (f.not_before a x m (f.number x a h) (f.one_way x a h) (g.1 x (inl refl)))
-        rest y (inr n) = elim (Memᴰ.cases_cons n.listed) [
-          | inl e ↦ g.1 y (inl e)
-          | inr k ↦ g.1 y (inr (record { listed = k; number = n.number }))
-        ]
-
-    kept : is_nan a ≡ false → before x a ≡ false → FirstOf a xs m → FirstOf a (x ∷ xs) m
-    kept i h g = (elim g.0 [ inl e ↦ inl e | inr n ↦ inr (later n) ], rest)
-      where
-        rest : (y : Float) → NumberOfOr (x ∷ xs) a y → before y m ≡ false
-        rest y (inl e) = g.1 y (inl e)
-        rest y (inr n) = elim (Memᴰ.cases_cons n.listed) [
-          | inl e ↦ rw e (f.not_before x a m i h (g.1 a (inl refl)))
-          | inr k ↦ g.1 y (inr (record { listed = k; number = n.number }))
-        ]
-
-  first_is : (xs : List Float) (a : Float) → is_nan a ≡ false → FirstOf a xs (fold a xs)
-  first_is [] a h = rw (f.nothing a) (inl refl, λ x n. elim n [ inl e ↦ rw e (f.itself a) | inr k ↦ absurd (Memᴰ.not-nil k.listed) ])
-  first_is (x ∷ xs) a h = rw (f.more a x xs h) (go (before x a) refl (first_is xs))
-    where
-      go :
-          (t : Bool) →
-          before x a ≡ t →
-          ((b : Float) → is_nan b ≡ false → FirstOf b xs (fold b xs)) →
-          FirstOf a (x ∷ xs) (fold (cond t x a) xs)
-      go true e g = taken a x xs (fold x xs) e (g x (f.number x a e))
-      go false e g = kept a x xs (fold a xs) h e (g a h)
-
-abbrev after : Float → Float → Bool
-after x y = lt y x
-
-least_fold : Fold lt fold_min
-unfolding fold_min min_of
-least_fold =
-    record {
-      itself = lt_itself;
-      one_way = lt_one_way;
-      not_before = lt_not;
-      number = below_number;
-      nothing = λ a. refl;
-      more = λ a x xs h. rw h refl;
-    }
-
-greatest_fold : Fold after fold_max
-unfolding fold_max max_of
-greatest_fold =
-    record {
-      itself = lt_itself;
-      one_way = λ x y. lt_one_way y x;
-      not_before = λ x y z i h k. lt_not z y x i k h;
-      number = λ x y. above_number y x;
-      nothing = λ a. refl;
-      more = λ a x xs h. rw h refl;
-    }
+    none_before : (x : Float) → NumberOfOr xs a x → before x m ≡ false
+    none_before x (inl e) = rw e (All-head NotBefore a xs f.1)
+    none_before x (inr n) = All-contains NotBefore xs x (All-tail NotBefore a xs f.1) (member xs n.listed)
 
 -- ---- ranges
 
 pub range_ends : RangeEnds
 unfolding is_nan
 range_ends xs =
-    let l = first_is least_fold xs +∞ refl in
-    let g = first_is greatest_fold xs -∞ refl in
+    let l = first_of_numbers lt xs +∞ _ (fold_min_first xs +∞ refl) (fold_min_number xs +∞ refl) in
+    let g = first_of_numbers after xs -∞ _ (fold_max_first xs -∞ refl) (fold_max_number xs -∞ refl) in
     (record { one_of = l.0; none_below = l.1 }, record { one_of = g.0; none_above = g.1 })
 
 pub one_range : OneRange

@@ -4,16 +4,15 @@ use mathlib.Core.Bool.{Bool, not, ◌||◌, or_assoc, or_comm}
 use mathlib.Core.List.{List, [], ◌∷◌, ◌++◌}
 use lib.Ieee.{Float, lt}
 use Rattle.types.specs.declared.shape.Range.{Range}
-use Rattle.axes.specs.Axes.{range_of, apart_of, some, projections, separates, meets}
+use Rattle.std.specs.List.{list_any}
+use Rattle.axes.specs.Axes.{range_of, apart_of, projections, separates, meets}
 
 module _ {A : Type 0} where
-  some_join : (f : A → Bool) (xs ys : List A) → some f (xs ++ ys) ≡ (some f xs || some f ys)
-  unfolding some
+  some_join : (f : A → Bool) (xs ys : List A) → list_any f (xs ++ ys) ≡ (list_any f xs || list_any f ys)
   some_join f [] ys = refl
-  some_join f (x ∷ xs) ys = rw (some_join f xs ys) (sym (or_assoc (f x) (some f xs) (some f ys)))
+  some_join f (x ∷ xs) ys = rw (some_join f xs ys) (sym (or_assoc (f x) (list_any f xs) (list_any f ys)))
 
-  some_same : (f g : A → Bool) → ((x : A) → f x ≡ g x) → (xs : List A) → some f xs ≡ some g xs
-  unfolding some
+  some_same : (f g : A → Bool) → ((x : A) → f x ≡ g x) → (xs : List A) → list_any f xs ≡ list_any g xs
   some_same f g e [] = refl
   some_same f g e (x ∷ xs) = rw (e x, some_same f g e xs)
 
@@ -34,5 +33,5 @@ module _ {P : Type 0} (dot : P → P → Float) where
       ap not
       (some_same (separates dot ps qs) (separates dot qs ps) (separates_exchanged ps qs) (xs ++ ys)
       ∙ some_join (separates dot qs ps) xs ys
-      ∙ or_comm (some (separates dot qs ps) xs) (some (separates dot qs ps) ys)
+      ∙ or_comm (list_any (separates dot qs ps) xs) (list_any (separates dot qs ps) ys)
       ∙ sym (some_join (separates dot qs ps) ys xs))

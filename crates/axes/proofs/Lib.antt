@@ -5,4 +5,4 @@ pub mod Exchanged
 pub mod First
 pub mod Ranges
 pub mod Reached
-pub mod Verdict
+pub mod Decided

@@ -8,12 +8,14 @@ use mathlib.Core.List.{List, [], ◌∷◌, ◌++◌, Memᴰ}
 use Prim.Native.Nat.{ℕ}
 use native.Mathlib.Omega.{arith}
 use lib.Ieee.{Float, is_nan}
-use Rattle.types.specs.declared.answer.Verdict.{Verdict}
-use Rattle.types.specs.declared.answer.Verdict.TheVariants.{Some, Refused}
+use Rattle.std.specs.Prelude.{Result, Ok, Err}
+use Rattle.types.specs.declared.refusal.Refusal.{Refusal}
+use Rattle.types.specs.declared.refusal.Refusal.TheVariants.{NanProjection}
 use Rattle.float.proofs.Tests.{neither, either}
-use Rattle.axes.specs.Axes.{some, projections, separates, undefined_on, verdict_of, is_yes_of}
+use Rattle.std.specs.List.{list_any}
+use Rattle.axes.specs.Axes.{projections, separates, undefined_on, verdict_of, is_yes_of}
 use Rattle.axes.specs.Reached.{Numbers, Defined, Separated, Passed, Reached, VerdictPromise}
-use Rattle.axes.proofs.Verdict.{verdict_join}
+use Rattle.axes.proofs.Decided.{verdict_join}
 use Rattle.axes.proofs.Disjoint.{some_is, is_some, separates_if_disjoint}
 
 -- ---- a test that cannot hold, or cannot fail
@@ -28,10 +30,10 @@ cannot_fail false h = absurd (h refl)
 
 -- ---- numbers
 
-numbers : (xs : List Float) → some is_nan xs ≡ false → Numbers xs
+numbers : (xs : List Float) → list_any is_nan xs ≡ false → Numbers xs
 numbers xs h x m = cannot_hold (is_nan x) (λ e. true≢false (sym (is_some is_nan xs x m e) ∙ h))
 
-no_numbers : (xs : List Float) → some is_nan xs ≡ true → Numbers xs → ⊥
+no_numbers : (xs : List Float) → list_any is_nan xs ≡ true → Numbers xs → ⊥
 no_numbers xs h n = let r = some_is is_nan xs h in true≢false (sym r.2 ∙ n r.0 r.1)
 
 module _ {P : Type 0} (dot : P → P → Float) (ps qs : List P) where
@@ -46,7 +48,7 @@ module _ {P : Type 0} (dot : P → P → Float) (ps qs : List P) where
   not_defined axis h d =
       let xs = projections dot ps axis in
       let ys = projections dot qs axis in
-      elim (either (some is_nan xs) (some is_nan ys) h) [ inl e ↦ no_numbers xs e d.0 | inr e ↦ no_numbers ys e d.1 ]
+      elim (either (list_any is_nan xs) (list_any is_nan ys) h) [ inl e ↦ no_numbers xs e d.0 | inr e ↦ no_numbers ys e d.1 ]
 
   all_numbers : (axis : P) → Defined dot ps qs axis → undefined_on dot ps qs axis ≡ false
   all_numbers axis d = cannot_hold (undefined_on dot ps qs axis) (λ e. not_defined axis e d)
@@ -70,7 +72,7 @@ module _ {P : Type 0} (dot : P → P → Float) (ps qs : List P) where
   abbrev Undefined : List P → Type 0
   Undefined axes = (axis : P) × Reached dot ps qs axes axis × (Defined dot ps qs axis → ⊥)
 
-  all_yes : (axes : List P) → AllPassed axes → verdict_of dot ps qs axes ≡ Some true
+  all_yes : (axes : List P) → AllPassed axes → verdict_of dot ps qs axes ≡ Ok true
   unfolding verdict_of
   all_yes [] all = refl
   all_yes (x ∷ axes) all =
@@ -82,12 +84,12 @@ module _ {P : Type 0} (dot : P → P → Float) (ps qs : List P) where
   unfolding is_yes_of
   skipped before rest all = rw (all_yes before all) at (verdict_join dot ps qs before rest)
 
-  parted_no : (axes : List P) → Parted axes → verdict_of dot ps qs axes ≡ Some false
+  parted_no : (axes : List P) → Parted axes → verdict_of dot ps qs axes ≡ Ok false
   unfolding verdict_of
   parted_no axes (axis, r, d, p) =
       rw (r.stands, skipped r.before (axis ∷ r.after) r.passed, all_numbers axis d, (separates_if_disjoint dot ps qs axis).1 p)
 
-  undefined_refused : (axes : List P) → Undefined axes → verdict_of dot ps qs axes ≡ Refused 16
+  undefined_refused : (axes : List P) → Undefined axes → verdict_of dot ps qs axes ≡ Err NanProjection
   unfolding verdict_of
   undefined_refused axes (axis, r, d) =
       rw (
@@ -130,12 +132,12 @@ module _ {P : Type 0} (dot : P → P → Float) (ps qs : List P) where
 
   -- ---- the promise
 
-  abbrev kind : Verdict → ℕ
-  kind (Some true) = 0
-  kind (Some false) = 1
-  kind (Refused n) = 2
+  abbrev kind : Result Bool Refusal → ℕ
+  kind (Ok true) = 0
+  kind (Ok false) = 1
+  kind (Err refusal) = 2
 
-  pub verdict_means : (axes : List P) (r : Verdict) → r ≡ verdict_of dot ps qs axes → VerdictPromise dot ps qs axes r
+  pub verdict_means : (axes : List P) (r : Result Bool Refusal) → r ≡ verdict_of dot ps qs axes → VerdictPromise dot ps qs axes r
   verdict_means axes r e =
       record {
         yes = (λ y. told_yes (cause axes) (ap kind (sym y ∙ e)), λ all. e ∙ all_yes axes all);

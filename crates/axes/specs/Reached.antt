@@ -1,10 +1,10 @@
 -- What the answer of a search means in which a NaN is refused, said with no fold: up to which axis it comes, and why it ends there.
 -- Definitions only.
-use Rattle.std.specs.Prelude.{◌≡◌, ◌↔◌, true, false, Float}
+use Rattle.std.specs.Prelude.{◌≡◌, ◌↔◌, true, false, Float, Bool, Result, Ok, Err}
 use mathlib.Core.List.{List, ◌∷◌, ◌++◌, Memᴰ}
 use Rattle.std.specs.Float.Ieee.{is_nan}
-use Rattle.types.specs.declared.answer.Verdict.{Verdict}
-use Rattle.types.specs.declared.answer.Verdict.TheVariants.{Some, Refused}
+use Rattle.types.specs.declared.refusal.Refusal.{Refusal}
+use Rattle.types.specs.declared.refusal.Refusal.TheVariants.{NanProjection}
 use Rattle.axes.specs.Axes.{projections}
 use Rattle.axes.specs.Disjoint.{Disjoint}
 
@@ -33,10 +33,10 @@ pub record Reached {P : Type 0} (dot : P → P → Float) (ps qs axes : List P) 
   pub passed : (a : P) → Memᴰ a before → Passed dot ps qs a
 
 -- r is the answer
-pub record VerdictPromise {P : Type 0} (dot : P → P → Float) (ps qs axes : List P) (r : Verdict) : Type 0 where
+pub record VerdictPromise {P : Type 0} (dot : P → P → Float) (ps qs axes : List P) (r : Result Bool Refusal) : Type 0 where
   -- yes exactly if it goes on past every axis
-  pub yes : (r ≡ Some true) ↔ ((axis : P) → Memᴰ axis axes → Passed dot ps qs axis)
+  pub yes : (r ≡ Ok true) ↔ ((axis : P) → Memᴰ axis axes → Passed dot ps qs axis)
   -- no exactly if it comes to an axis on which every projection is a number and that parts the boxes
-  pub no : (r ≡ Some false) ↔ ((axis : P) × Reached dot ps qs axes axis × Defined dot ps qs axis × Separated dot ps qs axis)
+  pub no : (r ≡ Ok false) ↔ ((axis : P) × Reached dot ps qs axes axis × Defined dot ps qs axis × Separated dot ps qs axis)
   -- refused exactly if it comes to an axis on which a projection is NaN, whether it parts the boxes or not
-  pub refused : (r ≡ Refused 16) ↔ ((axis : P) × Reached dot ps qs axes axis × (Defined dot ps qs axis → ⊥))
+  pub refused : (r ≡ Err NanProjection) ↔ ((axis : P) × Reached dot ps qs axes axis × (Defined dot ps qs axis → ⊥))

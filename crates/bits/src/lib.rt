@@ -1,37 +1,71 @@
-// A float and its bits, at every pattern and every float: all NaN patterns are the one NaN of `Rattle.std.specs.Float`.
+// What an entry of a record is kept as in memory: the 32 bits as they are, or the float of these bits. Bits keep a NaN's own; all NaN
+// patterns are one float, the NaN of `Rattle.std.specs.Float`, whose bits are written as 7fc00000.
 #![tactic(auto)]
 
-ghost use Rattle.std.specs.Prelude.{◌≡◌};
+ghost use Rattle.std.specs.Prelude.{◌≡◌, ◌<◌, ◌^◌, ℕ, T, refl};
 ghost use Rattle.std.specs.Float.{binary32};
-ghost use Rattle.std.specs.Float.Ieee.{is_nan, of_bits, to_bits};
+ghost use Rattle.std.specs.Float.Ieee.{fits, of_bits, to_bits};
+ghost use lib.Ieee.Bits.{of_bits-to_bits, to_bits-lt};
 
-// The float whose bits these are. `f32::from_bits` takes no NaN pattern: those are the ones above infinity's, the sign aside.
-#[tactic(auto, using(crate::proofs::Nan::below, crate::proofs::Nan::above))]
-pub fn of_bits(bits: u32) -> f32
-    ensures { result ≡ of_bits binary32 bits }
-{
-    let size = bits % 0x8000_0000;
-    if 0x7f80_0000 < size {
-        return 0.0 / 0.0;
-    }
-    f32::from_bits(bits)
+use std::num::{f32_from_bits_with_nan, f32_to_bits_with_nan};
+
+pub trait Entry: Copy {
+    // What is known of a value of the type.
+    ghost Fits: { Self → Type 0 };
+
+    // The two directions.
+    ghost of_bits: { ℕ → Self };
+
+    ghost bits_of: { Self → ℕ };
+
+    fn from_word(word: u32) -> Self
+        ensures { result ≡ of_bits word };
+
+    fn to_word(self) -> u32
+        ensures { result ≡ bits_of self };
+
+    // What the round trips need.
+    ghost bits_below: { (x : Self) → Fits x → bits_of x < 2 ^ 32 };
+
+    ghost kept: { (x : Self) → Fits x → of_bits (bits_of x) ≡ x };
 }
 
-#[tactic(auto, using(float::proofs::Tests::self_differs))]
-pub fn is_nan(x: f32) -> bool
-    ensures { result ≡ is_nan x }
-{
-    x != x
+impl Entry for u32 {
+    ghost Fits = { λ bits. bits < 2 ^ 32 };
+
+    ghost of_bits = { λ bits. bits };
+
+    ghost bits_of = { λ bits. bits };
+
+    fn from_word(word: u32) -> u32 {
+        word
+    }
+
+    fn to_word(self) -> u32 {
+        self
+    }
+
+    ghost bits_below = { λ bits fits. fits };
+
+    ghost kept = { λ bits fits. refl };
 }
 
-// The bits of a float, and 7fc00000 for a NaN.
-#[tactic(auto, using(crate::proofs::Nan::quiet))]
-pub fn to_bits(x: f32) -> u32
-    ensures { result ≡ to_bits binary32 x }
-{
-    if is_nan(x) {
-        0x7fc0_0000
-    } else {
-        f32::to_bits(x)
+impl Entry for f32 {
+    ghost Fits = { λ x. T (fits binary32 x) };
+
+    ghost of_bits = { of_bits binary32 };
+
+    ghost bits_of = { to_bits binary32 };
+
+    fn from_word(word: u32) -> f32 {
+        f32_from_bits_with_nan(word)
     }
+
+    fn to_word(self) -> u32 {
+        f32_to_bits_with_nan(self)
+    }
+
+    ghost bits_below = { to_bits-lt binary32 };
+
+    ghost kept = { of_bits-to_bits binary32 };
 }

@@ -3,8 +3,9 @@
 
 ghost use Rattle.std.specs.Prelude.{◌≡◌, length};
 ghost use Rattle.lists.specs.Lent.{leaves};
-ghost use Rattle.c_answers.specs.Answers.{of_interval, of_listed};
-ghost use Rattle.aabb.specs.Clip.{intersections_against_line_of, intersections_against_ray_of};
+ghost use Rattle.c_answers.specs.Answers.{interval_answer_of, count_answer_of};
+ghost use Rattle.slabs.specs.Promise.{IsLineAnswer, IsRayAnswer};
+ghost use Rattle.aabb.specs.Clip.{slabs, intersections_against_line_of, intersections_against_ray_of};
 ghost use Rattle.aabb.specs.Inside.{is_include_point_of, center_of};
 ghost use Rattle.aabb_lines.specs.Results.{results_of};
 ghost use Rattle.aabb_lines.specs.Answer.{intersections_against_lines_of};
@@ -25,9 +26,10 @@ pub extern "C" fn bgz_aabb_intersections_against_line(
     origin: Vec2,
     direction: Vec2,
 ) -> IntervalAnswer
-    ensures { result ≡ of_interval (intersections_against_line_of b origin direction) }
+    ensures answers { result ≡ interval_answer_of (intersections_against_line_of b origin direction) }
+    ensures means { IsLineAnswer (slabs b origin direction) (intersections_against_line_of b origin direction) }
 {
-    c_answers::interval(aabb::intersections_against_line(b, origin, direction))
+    IntervalAnswer::from(aabb::intersections_against_line(b, origin, direction))
 }
 
 // The line's answer if tmax >= 0, and else none. tmin is not raised to 0: it may be negative.
@@ -38,9 +40,10 @@ pub extern "C" fn bgz_aabb_intersections_against_ray(
     origin: Vec2,
     direction: Vec2,
 ) -> IntervalAnswer
-    ensures { result ≡ of_interval (intersections_against_ray_of b origin direction) }
+    ensures answers { result ≡ interval_answer_of (intersections_against_ray_of b origin direction) }
+    ensures means { IsRayAnswer (slabs b origin direction) (intersections_against_ray_of b origin direction) }
 {
-    c_answers::interval(aabb::intersections_against_ray(b, origin, direction))
+    IntervalAnswer::from(aabb::intersections_against_ray(b, origin, direction))
 }
 
 // Every line of a list against the box `b`, a whole face in one call: each is answered as by `aabb::intersections_against_line`, bit
@@ -56,10 +59,10 @@ pub extern "C" fn bgz_aabb_intersections_against_lines(
     lines: &[f32],
     out: &mut [f32],
 ) -> CountAnswer
-    ensures answers { result ≡ of_listed (intersections_against_lines_of b lines.now (length out.old)) }
+    ensures answers { result ≡ count_answer_of (intersections_against_lines_of b lines.now (length out.old)) }
     ensures leaves { out.new ≡ leaves (intersections_against_lines_of b lines.now (length out.old)) (results_of b lines.now) out.old }
 {
-    c_answers::listed(aabb_lines::intersections_against_lines(b, lines, out))
+    CountAnswer::from(aabb_lines::intersections_against_lines(b, lines, out))
 }
 
 // Whether `p` is in `b`, edges included. A NaN is outside.

@@ -2,7 +2,7 @@
 #![tactic(auto)]
 
 ghost use Rattle.std.specs.Prelude.{◌≡◌, length};
-ghost use Rattle.c_answers.specs.Answers.{of_boxed, of_listed, of_nearest, of_pixels};
+ghost use Rattle.c_answers.specs.Answers.{box_answer_of, count_answer_of, point_answer_of, pixels_answer_of};
 ghost use Rattle.aabb.specs.Inside.{is_include_point_of, center_of};
 ghost use Rattle.tiles.specs.Answer.{sheet, overlapping_tiles_of};
 ghost use Rattle.tiles.specs.Promise.{Promise};
@@ -20,9 +20,9 @@ use types::{Aabb2, Mat3, Vec2};
 // Example: (3, 4), 1 gives (2, 3, 4, 5).
 #[unsafe(no_mangle)]
 pub extern "C" fn bgz_aabb2_from_point(p: Vec2, radius: f32) -> BoxAnswer
-    ensures { result ≡ of_boxed (from_point_of p radius) }
+    ensures { result ≡ box_answer_of (from_point_of p radius) }
 {
-    c_answers::boxed(aabb2::from_point(p, radius))
+    BoxAnswer::from(aabb2::from_point(p, radius))
 }
 
 // The box around the two boxes from `p` - `radius` to `p` + `radius` and from `q` - `radius` to `q` + `radius`. Any radius is
@@ -49,9 +49,9 @@ pub extern "C" fn bgz_aabb2_from_two_aabbs(a: Aabb2, b: Aabb2) -> Aabb2
 // Example: (0, 0, 1, 1), (3, 0), 0 gives (0, 0, 3, 1).
 #[unsafe(no_mangle)]
 pub extern "C" fn bgz_aabb2_add_point(b: Aabb2, p: Vec2, radius: f32) -> BoxAnswer
-    ensures { result ≡ of_boxed (add_point_of b p radius) }
+    ensures { result ≡ box_answer_of (add_point_of b p radius) }
 {
-    c_answers::boxed(aabb2::add_point(b, p, radius))
+    BoxAnswer::from(aabb2::add_point(b, p, radius))
 }
 
 // The pixels of an image of `width` by `height` whose centres lie in `b`, low edge in and high edge out. x0 and y0 are not held to
@@ -61,9 +61,9 @@ pub extern "C" fn bgz_aabb2_add_point(b: Aabb2, p: Vec2, radius: f32) -> BoxAnsw
 // Example: (0.25, 0.25, 2.5, 1.75), 8, 8 gives (0, 0, 2, 2).
 #[unsafe(no_mangle)]
 pub extern "C" fn bgz_aabb2_rasterize(b: Aabb2, width: usize, height: usize) -> PixelsAnswer
-    ensures { result ≡ of_pixels (rasterize_of b width height) }
+    ensures { result ≡ pixels_answer_of (rasterize_of b width height) }
 {
-    c_answers::pixels(aabb2::rasterize(b, width, height))
+    PixelsAnswer::from(aabb2::rasterize(b, width, height))
 }
 
 // The same as `aabb::center`.
@@ -90,9 +90,9 @@ pub extern "C" fn bgz_aabb2_max_edge_size(b: Aabb2) -> f32
 // Example: (0, 0, 1, 1), (2, 0, 0, 0, 2, 0, 1, 0, 1) gives (1, 0, 3, 2).
 #[unsafe(no_mangle)]
 pub extern "C" fn bgz_aabb2_transform_homogeneous(b: Aabb2, m: Mat3) -> BoxAnswer
-    ensures { result ≡ of_boxed (transform_homogeneous_of b m) }
+    ensures { result ≡ box_answer_of (transform_homogeneous_of b m) }
 {
-    c_answers::boxed(aabb2::transform_homogeneous(b, m))
+    BoxAnswer::from(aabb2::transform_homogeneous(b, m))
 }
 
 // The transform that takes `b` into the unit square, both axes scaled by 1 / (the longer side), the centre to (0.5, 0.5). A box
@@ -129,9 +129,9 @@ pub extern "C" fn bgz_aabb2_is_intersect_square(b: Aabb2, p: Vec2, radius: f32) 
 // Example: (0, 0, 4, 2), (6, 1) gives (4, 1).
 #[unsafe(no_mangle)]
 pub extern "C" fn bgz_aabb2_nearest_point2(b: Aabb2, p: Vec2) -> PointAnswer
-    ensures { result ≡ of_nearest (nearest_point2_of b p) }
+    ensures { result ≡ point_answer_of (nearest_point2_of b p) }
 {
-    c_answers::nearest(aabb2::nearest_point2(b, p))
+    PointAnswer::from(aabb2::nearest_point2(b, p))
 }
 
 // The signed distance from `p` to the edge of `b`: positive outside, negative inside, but for rounding. A NaN is dropped,
@@ -180,10 +180,10 @@ pub extern "C" fn bgz_aabb2_overlapping_tiles(
     shape_height: usize,
     out: &mut [u32],
 ) -> CountAnswer
-    ensures answers { result ≡ of_listed (overlapping_tiles_of (sheet size shape_width shape_height) b (length out.old)) }
+    ensures answers { result ≡ count_answer_of (overlapping_tiles_of (sheet size shape_width shape_height) b (length out.old)) }
     ensures promises { Promise (sheet size shape_width shape_height) b out.old (overlapping_tiles_of (sheet size shape_width shape_height) b (length out.old)) out.new }
 {
-    c_answers::listed(tiles::overlapping_tiles(b, size, shape_width, shape_height, out))
+    CountAnswer::from(tiles::overlapping_tiles(b, size, shape_width, shape_height, out))
 }
 
 // How many whole boxes a flat list has: its length / 4, rounded down. Each box is min_x, min_y, max_x, max_y.
@@ -200,9 +200,9 @@ pub extern "C" fn bgz_aabb2_count(all: &[f32]) -> usize
 // Example: [0, 0, 1, 1, 2, 2, 3, 3], 1 gives (2, 2, 3, 3).
 #[unsafe(no_mangle)]
 pub extern "C" fn bgz_aabb2_from_aabbs(all: &[f32], index: usize) -> BoxAnswer
-    ensures { result ≡ of_boxed (from_aabbs_of all.now index) }
+    ensures { result ≡ box_answer_of (from_aabbs_of all.now index) }
 {
-    c_answers::boxed(aabb2_view::from_aabbs(all, index))
+    BoxAnswer::from(aabb2_view::from_aabbs(all, index))
 }
 
 // The first box of a flat list.
@@ -210,7 +210,7 @@ pub extern "C" fn bgz_aabb2_from_aabbs(all: &[f32], index: usize) -> BoxAnswer
 // Example: [0, 0, 1, 1] gives (0, 0, 1, 1).
 #[unsafe(no_mangle)]
 pub extern "C" fn bgz_aabb2_from_slice(s: &[f32]) -> BoxAnswer
-    ensures { result ≡ of_boxed (from_aabbs_of s.now 0) }
+    ensures { result ≡ box_answer_of (from_aabbs_of s.now 0) }
 {
-    c_answers::boxed(aabb2_view::from_slice(s))
+    BoxAnswer::from(aabb2_view::from_slice(s))
 }

@@ -2,7 +2,7 @@
 #![tactic(auto)]
 
 ghost use Rattle.std.specs.Prelude.{◌≡◌};
-ghost use Rattle.c_answers.specs.Answers.{of_boxed3, of_corner, of_verdict};
+ghost use Rattle.c_answers.specs.Answers.{box3_answer_of, point3_answer_of, bool_answer_of};
 ghost use Rattle.aabb_3.specs.Inside.{center_of};
 ghost use Rattle.aabb3.specs.From.{from_two_aabbs_of, set_as_cube_of, add_point_of};
 ghost use Rattle.aabb3.specs.Measure.{size_of, scale_of, volume_of, max_edge_size_of, xyz_from_hex_index_of};
@@ -94,9 +94,9 @@ pub extern "C" fn bgz_aabb3_max_edge_size(b: Aabb3) -> f32
 // Example: (0, 0, 0, 4, 2, 1), 6 gives (4, 2, 1).
 #[unsafe(no_mangle)]
 pub extern "C" fn bgz_aabb3_xyz_from_hex_index(b: Aabb3, index: usize) -> Point3Answer
-    ensures { result ≡ of_corner (xyz_from_hex_index_of b index) }
+    ensures { result ≡ point3_answer_of (xyz_from_hex_index_of b index) }
 {
-    c_answers::corner(aabb3::xyz_from_hex_index(b, index))
+    Point3Answer::from(aabb3::xyz_from_hex_index(b, index))
 }
 
 // Whether `b` is ordered in x, min_x <= max_x. y and z are not looked at.
@@ -150,9 +150,9 @@ pub extern "C" fn bgz_aabb3_is_possible_distance_to_aabb2_smaller_than_threshold
     b: Aabb3,
     threshold: f32,
 ) -> BoolAnswer
-    ensures { result ≡ of_verdict (is_possible_distance_of a b threshold) }
+    ensures { result ≡ bool_answer_of (is_possible_distance_of a b threshold) }
 {
-    c_answers::verdict(aabb3::is_possible_distance_to_aabb2_smaller_than_threshold(a, b, threshold))
+    BoolAnswer::from(aabb3::is_possible_distance_to_aabb2_smaller_than_threshold(a, b, threshold))
 }
 
 // How many whole boxes a flat list has: its length / 6, rounded down. Each box is min_x, min_y, min_z, max_x, max_y, max_z.
@@ -169,9 +169,9 @@ pub extern "C" fn bgz_aabb3_count(all: &[f32]) -> usize
 // Example: [0, 0, 0, 1, 1, 1, 2, 2, 2, 3, 3, 3], 1 gives (2, 2, 2, 3, 3, 3).
 #[unsafe(no_mangle)]
 pub extern "C" fn bgz_aabb3_from_aabbs(all: &[f32], index: usize) -> Box3Answer
-    ensures { result ≡ of_boxed3 (from_aabbs_of all.now index) }
+    ensures { result ≡ box3_answer_of (from_aabbs_of all.now index) }
 {
-    c_answers::boxed3(aabb3::from_aabbs(all, index))
+    Box3Answer::from(aabb3::from_aabbs(all, index))
 }
 
 // The first box of a flat list: the one at index 0.
@@ -179,7 +179,7 @@ pub extern "C" fn bgz_aabb3_from_aabbs(all: &[f32], index: usize) -> Box3Answer
 // Example: [0, 0, 0, 1, 1, 1, 2] gives (0, 0, 0, 1, 1, 1).
 #[unsafe(no_mangle)]
 pub extern "C" fn bgz_aabb3_from_slice(s: &[f32]) -> Box3Answer
-    ensures { result ≡ of_boxed3 (from_aabbs_of s.now 0) }
+    ensures { result ≡ box3_answer_of (from_aabbs_of s.now 0) }
 {
-    c_answers::boxed3(aabb3::from_slice(s))
+    Box3Answer::from(aabb3::from_slice(s))
 }

@@ -2,8 +2,9 @@
 #![tactic(auto)]
 
 ghost use Rattle.std.specs.Prelude.{◌≡◌};
-ghost use Rattle.c_answers.specs.Answers.{of_interval};
-ghost use Rattle.aabb_3.specs.Clip.{intersections_against_line_of};
+ghost use Rattle.c_answers.specs.Answers.{interval_answer_of};
+ghost use Rattle.slabs.specs.Promise.{IsLineAnswer};
+ghost use Rattle.aabb_3.specs.Clip.{slabs, intersections_against_line_of};
 ghost use Rattle.aabb_3.specs.Inside.{is_include_point_of, center_of};
 
 use c_answers::IntervalAnswer;
@@ -18,9 +19,10 @@ pub extern "C" fn bgz_aabb_3_intersections_against_line(
     origin: Vec3,
     direction: Vec3,
 ) -> IntervalAnswer
-    ensures { result ≡ of_interval (intersections_against_line_of b origin direction) }
+    ensures answers { result ≡ interval_answer_of (intersections_against_line_of b origin direction) }
+    ensures means { IsLineAnswer (slabs b origin direction) (intersections_against_line_of b origin direction) }
 {
-    c_answers::interval(aabb_3::intersections_against_line(b, origin, direction))
+    IntervalAnswer::from(aabb_3::intersections_against_line(b, origin, direction))
 }
 
 // Whether `p` is in `b`, faces included. A NaN is outside, unlike for `aabb3::is_contain`.

@@ -3,8 +3,9 @@
 #![tactic(auto)]
 
 ghost use Rattle.std.specs.Prelude.{◌≡◌};
-ghost use Rattle.c_answers.specs.Answers.{of_interval};
-ghost use Rattle.aabb_3.specs.Clip.{intersections_against_ray_of};
+ghost use Rattle.c_answers.specs.Answers.{interval_answer_of};
+ghost use Rattle.slabs.specs.Promise.{IsRayAnswer};
+ghost use Rattle.aabb_3.specs.Clip.{slabs, intersections_against_ray_of};
 
 use c_answers::IntervalAnswer;
 use types::{Aabb3, Vec3};
@@ -17,7 +18,8 @@ pub extern "C" fn bgz_aabb_3_intersections_against_ray(
     origin: Vec3,
     direction: Vec3,
 ) -> IntervalAnswer
-    ensures { result ≡ of_interval (intersections_against_ray_of b origin direction) }
+    ensures answers { result ≡ interval_answer_of (intersections_against_ray_of b origin direction) }
+    ensures means { IsRayAnswer (slabs b origin direction) (intersections_against_ray_of b origin direction) }
 {
-    c_answers::interval(aabb_3::intersections_against_ray(b, origin, direction))
+    IntervalAnswer::from(aabb_3::intersections_against_ray(b, origin, direction))
 }

@@ -1,18 +1,53 @@
-// Answers as C sees them. The status is 0 where there is an answer, 255 where there is none, and a refusal's number otherwise;
-// what is not answered is zero, and so is a place that is not told.
-#![tactic(auto, unfolding(crate::specs::Answers::of_extent, crate::specs::Answers::of_length, crate::specs::Answers::of_image, crate::specs::Answers::of_nearest, crate::specs::Answers::of_corner, crate::specs::Answers::of_boxed, crate::specs::Answers::of_boxed3, crate::specs::Answers::of_verdict, crate::specs::Answers::of_interval, crate::specs::Answers::of_pixels, crate::specs::Answers::of_listed, crate::specs::Answers::of_ink))]
+// Answers as C sees them. The status is `ANSWERED` where there is an answer, `NONE` where there is none, and a refusal's number
+// otherwise; what is not answered is zero, and so is a place that is not told.
+#![tactic(auto)]
 
 ghost use Rattle.std.specs.Prelude.{◌≡◌};
-ghost use Rattle.c_answers.specs.Answers.{of_extent, of_length, of_image, of_nearest, of_corner, of_boxed, of_boxed3, of_verdict, of_interval, of_pixels, of_listed, of_ink, of_widened};
+ghost use Rattle.c_answers.specs.Status.{status_of};
 
-use types::{
-    Aabb2, Aabb3, Boxed, Boxed3, Corner, Extent, Image, Ink, Interval, Length, Listed, Nearest,
-    Pixels, Vec2, Vec3, Verdict, Widened,
+use slabs::Interval;
+use types::{Aabb2, Aabb3, Pixels, Refusal, RefusalAt, Vec2, Vec3};
+
+pub const ANSWERED: u32 = 0;
+
+const NONE: u32 = 255;
+
+const NO_POINT: Vec2 = Vec2 { x: 0.0, y: 0.0 };
+
+const NO_POINT3: Vec3 = Vec3 {
+    x: 0.0,
+    y: 0.0,
+    z: 0.0,
 };
+
+const NO_BOX: Aabb2 = Aabb2 {
+    min_x: 0.0,
+    min_y: 0.0,
+    max_x: 0.0,
+    max_y: 0.0,
+};
+
+const NO_BOX3: Aabb3 = Aabb3 {
+    min_x: 0.0,
+    min_y: 0.0,
+    min_z: 0.0,
+    max_x: 0.0,
+    max_y: 0.0,
+    max_z: 0.0,
+};
+
+const NO_PIXELS: Pixels = Pixels {
+    x0: 0,
+    y0: 0,
+    x1: 0,
+    y1: 0,
+};
+
+// A struct for each type of value: no generic one may cross to C.
 
 // A number.
 #[repr(C)]
-#[derive(Clone, Copy)]
+#[derive(Clone, Copy, Debug, PartialEq)]
 pub struct FloatAnswer {
     pub status: u32,
     pub value: f32,
@@ -20,7 +55,7 @@ pub struct FloatAnswer {
 
 // A point.
 #[repr(C)]
-#[derive(Clone, Copy)]
+#[derive(Clone, Copy, Debug, PartialEq)]
 pub struct PointAnswer {
     pub status: u32,
     pub value: Vec2,
@@ -28,7 +63,7 @@ pub struct PointAnswer {
 
 // A point of space.
 #[repr(C)]
-#[derive(Clone, Copy)]
+#[derive(Clone, Copy, Debug, PartialEq)]
 pub struct Point3Answer {
     pub status: u32,
     pub value: Vec3,
@@ -36,7 +71,7 @@ pub struct Point3Answer {
 
 // An upright box.
 #[repr(C)]
-#[derive(Clone, Copy)]
+#[derive(Clone, Copy, Debug, PartialEq)]
 pub struct BoxAnswer {
     pub status: u32,
     pub value: Aabb2,
@@ -44,7 +79,7 @@ pub struct BoxAnswer {
 
 // An upright box of space.
 #[repr(C)]
-#[derive(Clone, Copy)]
+#[derive(Clone, Copy, Debug, PartialEq)]
 pub struct Box3Answer {
     pub status: u32,
     pub value: Aabb3,
@@ -52,7 +87,7 @@ pub struct Box3Answer {
 
 // Yes or no.
 #[repr(C)]
-#[derive(Clone, Copy)]
+#[derive(Clone, Copy, Debug, PartialEq, Eq)]
 pub struct BoolAnswer {
     pub status: u32,
     pub value: bool,
@@ -60,7 +95,7 @@ pub struct BoolAnswer {
 
 // The stretch of a line or a ray in a box, by the parameters t of its two ends: the points origin + t * direction.
 #[repr(C)]
-#[derive(Clone, Copy)]
+#[derive(Clone, Copy, Debug, PartialEq)]
 pub struct IntervalAnswer {
     pub status: u32,
     // Where it begins.
@@ -71,7 +106,7 @@ pub struct IntervalAnswer {
 
 // Columns from x0 up to and without x1, rows from y0 up to and without y1.
 #[repr(C)]
-#[derive(Clone, Copy)]
+#[derive(Clone, Copy, Debug, PartialEq, Eq)]
 pub struct PixelsAnswer {
     pub status: u32,
     // The first column.
@@ -86,7 +121,7 @@ pub struct PixelsAnswer {
 
 // How many entries: those written, or the most that there can be.
 #[repr(C)]
-#[derive(Clone, Copy)]
+#[derive(Clone, Copy, Debug, PartialEq, Eq)]
 pub struct CountAnswer {
     pub status: u32,
     pub count: usize,
@@ -96,7 +131,7 @@ pub struct CountAnswer {
 
 // The ink of a stroke: a length.
 #[repr(C)]
-#[derive(Clone, Copy)]
+#[derive(Clone, Copy, Debug, PartialEq)]
 pub struct InkAnswer {
     pub status: u32,
     pub value: f32,
@@ -104,204 +139,221 @@ pub struct InkAnswer {
     pub place: usize,
 }
 
-pub fn extent(a: Extent) -> FloatAnswer
-    ensures { result ≡ of_extent a }
+// The status of an answer or a refusal.
+pub fn status<T: Copy>(answer: Result<T, Refusal>) -> u32
+    ensures { result ≡ status_of answer }
 {
-    match a {
-        Extent::None => FloatAnswer {
-            status: 255,
-            value: 0.0,
-        },
-        Extent::Some(value) => FloatAnswer { status: 0, value },
-        Extent::Refused(status) => FloatAnswer { status, value: 0.0 },
+    match answer {
+        Ok(_) => ANSWERED,
+        Err(refusal) => refusal.number(),
     }
 }
 
-pub fn length(a: Length) -> FloatAnswer
-    ensures { result ≡ of_length a }
-{
-    match a {
-        Length::Some(value) => FloatAnswer { status: 0, value },
-        Length::Refused(status) => FloatAnswer { status, value: 0.0 },
+impl From<Result<f32, Refusal>> for FloatAnswer {
+    ghost use Rattle.c_answers.specs.Answers.{float_answer_of};
+
+    ghost from_gives = { λ answer told. told ≡ float_answer_of answer };
+
+    fn from(answer: Result<f32, Refusal>) -> FloatAnswer {
+        FloatAnswer {
+            status: status(answer),
+            value: answer.unwrap_or(0.0),
+        }
     }
 }
 
-pub fn image(a: Image) -> PointAnswer
-    ensures { result ≡ of_image a }
-{
-    match a {
-        Image::None => PointAnswer {
-            status: 255,
-            value: Vec2 { x: 0.0, y: 0.0 },
-        },
-        Image::Some(value) => PointAnswer { status: 0, value },
-    }
-}
+impl From<Result<Option<f32>, Refusal>> for FloatAnswer {
+    ghost use Rattle.c_answers.specs.Answers.{optional_float_answer_of};
 
-pub fn nearest(a: Nearest) -> PointAnswer
-    ensures { result ≡ of_nearest a }
-{
-    match a {
-        Nearest::Some(value) => PointAnswer { status: 0, value },
-        Nearest::Refused(status) => PointAnswer {
-            status,
-            value: Vec2 { x: 0.0, y: 0.0 },
-        },
-    }
-}
+    ghost from_gives = { λ answer told. told ≡ optional_float_answer_of answer };
 
-pub fn boxed(a: Boxed) -> BoxAnswer
-    ensures { result ≡ of_boxed a }
-{
-    match a {
-        Boxed::Some(value) => BoxAnswer { status: 0, value },
-        Boxed::Refused(status) => BoxAnswer {
-            status,
-            value: Aabb2 {
-                min_x: 0.0,
-                min_y: 0.0,
-                max_x: 0.0,
-                max_y: 0.0,
+    fn from(answer: Result<Option<f32>, Refusal>) -> FloatAnswer {
+        match answer.transpose() {
+            Some(answer) => FloatAnswer::from(answer),
+            None => FloatAnswer {
+                status: NONE,
+                value: 0.0,
             },
-        },
+        }
     }
 }
 
-pub fn corner(a: Corner) -> Point3Answer
-    ensures { result ≡ of_corner a }
-{
-    match a {
-        Corner::Some(value) => Point3Answer { status: 0, value },
-        Corner::Refused(status) => Point3Answer {
-            status,
-            value: Vec3 {
-                x: 0.0,
-                y: 0.0,
-                z: 0.0,
+impl From<Result<Vec2, Refusal>> for PointAnswer {
+    ghost use Rattle.c_answers.specs.Answers.{point_answer_of};
+
+    ghost from_gives = { λ answer told. told ≡ point_answer_of answer };
+
+    fn from(answer: Result<Vec2, Refusal>) -> PointAnswer {
+        PointAnswer {
+            status: status(answer),
+            value: answer.unwrap_or(NO_POINT),
+        }
+    }
+}
+
+impl From<Option<Vec2>> for PointAnswer {
+    ghost use Rattle.c_answers.specs.Answers.{optional_point_answer_of};
+
+    ghost from_gives = { λ answer told. told ≡ optional_point_answer_of answer };
+
+    fn from(answer: Option<Vec2>) -> PointAnswer {
+        match answer {
+            Some(value) => PointAnswer {
+                status: ANSWERED,
+                value,
             },
-        },
-    }
-}
-
-pub fn boxed3(a: Boxed3) -> Box3Answer
-    ensures { result ≡ of_boxed3 a }
-{
-    match a {
-        Boxed3::Some(value) => Box3Answer { status: 0, value },
-        Boxed3::Refused(status) => Box3Answer {
-            status,
-            value: Aabb3 {
-                min_x: 0.0,
-                min_y: 0.0,
-                min_z: 0.0,
-                max_x: 0.0,
-                max_y: 0.0,
-                max_z: 0.0,
+            None => PointAnswer {
+                status: NONE,
+                value: NO_POINT,
             },
-        },
+        }
     }
 }
 
-pub fn verdict(a: Verdict) -> BoolAnswer
-    ensures { result ≡ of_verdict a }
-{
-    match a {
-        Verdict::Some(value) => BoolAnswer { status: 0, value },
-        Verdict::Refused(status) => BoolAnswer {
-            status,
-            value: false,
-        },
+impl From<Result<Vec3, Refusal>> for Point3Answer {
+    ghost use Rattle.c_answers.specs.Answers.{point3_answer_of};
+
+    ghost from_gives = { λ answer told. told ≡ point3_answer_of answer };
+
+    fn from(answer: Result<Vec3, Refusal>) -> Point3Answer {
+        Point3Answer {
+            status: status(answer),
+            value: answer.unwrap_or(NO_POINT3),
+        }
     }
 }
 
-pub fn interval(a: Interval) -> IntervalAnswer
-    ensures { result ≡ of_interval a }
-{
-    match a {
-        Interval::Miss => IntervalAnswer {
-            status: 255,
-            tmin: 0.0,
-            tmax: 0.0,
-        },
-        Interval::Hit(tmin, tmax) => IntervalAnswer {
-            status: 0,
-            tmin,
-            tmax,
-        },
+impl From<Result<Aabb2, Refusal>> for BoxAnswer {
+    ghost use Rattle.c_answers.specs.Answers.{box_answer_of};
+
+    ghost from_gives = { λ answer told. told ≡ box_answer_of answer };
+
+    fn from(answer: Result<Aabb2, Refusal>) -> BoxAnswer {
+        BoxAnswer {
+            status: status(answer),
+            value: answer.unwrap_or(NO_BOX),
+        }
     }
 }
 
-pub fn pixels(a: Pixels) -> PixelsAnswer
-    ensures { result ≡ of_pixels a }
-{
-    match a {
-        Pixels::Some { x0, y0, x1, y1 } => PixelsAnswer {
-            status: 0,
+impl From<Result<Aabb3, Refusal>> for Box3Answer {
+    ghost use Rattle.c_answers.specs.Answers.{box3_answer_of};
+
+    ghost from_gives = { λ answer told. told ≡ box3_answer_of answer };
+
+    fn from(answer: Result<Aabb3, Refusal>) -> Box3Answer {
+        Box3Answer {
+            status: status(answer),
+            value: answer.unwrap_or(NO_BOX3),
+        }
+    }
+}
+
+impl From<Result<bool, Refusal>> for BoolAnswer {
+    ghost use Rattle.c_answers.specs.Answers.{bool_answer_of};
+
+    ghost from_gives = { λ answer told. told ≡ bool_answer_of answer };
+
+    fn from(answer: Result<bool, Refusal>) -> BoolAnswer {
+        BoolAnswer {
+            status: status(answer),
+            value: answer.unwrap_or(false),
+        }
+    }
+}
+
+impl From<Interval> for IntervalAnswer {
+    ghost use Rattle.c_answers.specs.Answers.{interval_answer_of};
+
+    ghost from_gives = { λ answer told. told ≡ interval_answer_of answer };
+
+    fn from(answer: Interval) -> IntervalAnswer {
+        match answer {
+            Interval::Miss => IntervalAnswer {
+                status: NONE,
+                tmin: 0.0,
+                tmax: 0.0,
+            },
+            Interval::Hit { tmin, tmax } => IntervalAnswer {
+                status: ANSWERED,
+                tmin,
+                tmax,
+            },
+        }
+    }
+}
+
+impl From<Result<Pixels, Refusal>> for PixelsAnswer {
+    ghost use Rattle.c_answers.specs.Answers.{pixels_answer_of};
+
+    ghost from_gives = { λ answer told. told ≡ pixels_answer_of answer };
+
+    fn from(answer: Result<Pixels, Refusal>) -> PixelsAnswer {
+        let Pixels { x0, y0, x1, y1 } = answer.unwrap_or(NO_PIXELS);
+        PixelsAnswer {
+            status: status(answer),
             x0,
             y0,
             x1,
             y1,
-        },
-        Pixels::Refused(status) => PixelsAnswer {
-            status,
-            x0: 0,
-            y0: 0,
-            x1: 0,
-            y1: 0,
-        },
+        }
     }
 }
 
-pub fn listed(a: Listed) -> CountAnswer
-    ensures { result ≡ of_listed a }
-{
-    match a {
-        Listed::Count(count) => CountAnswer {
-            status: 0,
-            count,
+impl From<Result<usize, Refusal>> for CountAnswer {
+    ghost use Rattle.c_answers.specs.Answers.{count_answer_of};
+
+    ghost from_gives = { λ answer told. told ≡ count_answer_of answer };
+
+    fn from(answer: Result<usize, Refusal>) -> CountAnswer {
+        CountAnswer {
+            status: status(answer),
+            count: answer.unwrap_or(0),
             place: 0,
-        },
-        Listed::Refused(status) => CountAnswer {
-            status,
-            count: 0,
-            place: 0,
-        },
-        Listed::RefusedAt { number, place } => CountAnswer {
-            status: number,
-            count: 0,
-            place,
-        },
+        }
     }
 }
 
-pub fn ink(a: Ink) -> InkAnswer
-    ensures { result ≡ of_ink a }
-{
-    match a {
-        Ink::Some(value) => InkAnswer {
-            status: 0,
-            value,
-            place: 0,
-        },
-        Ink::Refused(status) => InkAnswer {
-            status,
-            value: 0.0,
-            place: 0,
-        },
-        Ink::RefusedAt { number, place: at } => InkAnswer {
-            status: number,
-            value: 0.0,
-            place: at,
-        },
+// By cases: three lookups, one of them for the place, are no plainer.
+impl From<Result<usize, RefusalAt>> for CountAnswer {
+    ghost use Rattle.c_answers.specs.Answers.{count_answer_at_of};
+
+    ghost from_gives = { λ answer told. told ≡ count_answer_at_of answer };
+
+    fn from(answer: Result<usize, RefusalAt>) -> CountAnswer {
+        match answer {
+            Ok(count) => CountAnswer {
+                status: ANSWERED,
+                count,
+                place: 0,
+            },
+            Err(at) => CountAnswer {
+                status: at.refusal.number(),
+                count: 0,
+                place: at.place,
+            },
+        }
     }
 }
 
-// The box is with the lender: the status alone.
-pub fn widened(a: Widened) -> u32
-    ensures { result ≡ of_widened a }
-{
-    match a {
-        Widened::Done => 0,
-        Widened::Refused(status) => status,
+// By cases: three lookups, one of them for the place, are no plainer.
+impl From<Result<f32, RefusalAt>> for InkAnswer {
+    ghost use Rattle.c_answers.specs.Answers.{ink_answer_of};
+
+    ghost from_gives = { λ answer told. told ≡ ink_answer_of answer };
+
+    fn from(answer: Result<f32, RefusalAt>) -> InkAnswer {
+        match answer {
+            Ok(value) => InkAnswer {
+                status: ANSWERED,
+                value,
+                place: 0,
+            },
+            Err(at) => InkAnswer {
+                status: at.refusal.number(),
+                value: 0.0,
+                place: at.place,
+            },
+        }
     }
 }

@@ -2,7 +2,7 @@
 #![tactic(auto)]
 
 ghost use Rattle.std.specs.Prelude.{◌≡◌, true, length as entries};
-ghost use Rattle.c_answers.specs.Answers.{of_length, of_listed, of_ink};
+ghost use Rattle.c_answers.specs.Answers.{float_answer_of, count_answer_at_of, ink_answer_of};
 ghost use Rattle.pixels.specs.Answer.{overlapping_pixels_dda_of};
 ghost use Rattle.pixels.specs.Promise.{Promise};
 ghost use Rattle.edge2.specs.Measure.{length_of, squared_length_of, unit_edge_vector_of, position_from_ratio_of, ratio_from_position_of, culling_intersection_of};
@@ -105,9 +105,9 @@ pub extern "C" fn bgz_edge2_intersection_length_against_aabb2(
     e: Vec2,
     b: Aabb2,
 ) -> FloatAnswer
-    ensures { result ≡ of_length (intersection_length_against_aabb2_of s e b) }
+    ensures { result ≡ float_answer_of (intersection_length_against_aabb2_of s e b) }
 {
-    c_answers::length(edge2::intersection_length_against_aabb2(s, e, b))
+    FloatAnswer::from(edge2::intersection_length_against_aabb2(s, e, b))
 }
 
 // The ink that the stroke from `p0` to `p1` leaves in the box `b`: the length of what it draws there. The stroke's line is clipped against the
@@ -122,10 +122,10 @@ pub extern "C" fn bgz_edge2_intersection_length_against_aabb2(
 // Example: (0, 0), (4, 3), (0, 0, 2, 3) gives 2.5.
 #[unsafe(no_mangle)]
 pub extern "C" fn bgz_edge2_ink(p0: Vec2, p1: Vec2, b: Aabb2) -> InkAnswer
-    ensures answers { result ≡ of_ink (ink_of p0 p1 b) }
+    ensures answers { result ≡ ink_answer_of (ink_of p0 p1 b) }
     ensures promises { InkPromise p0 p1 b (ink_of p0 p1 b) }
 {
-    c_answers::ink(stroke_ink::ink(p0, p1, b))
+    InkAnswer::from(stroke_ink::ink(p0, p1, b))
 }
 
 // The pixels under the stroke from `p0` to `p1`, in an image of `width` by `height` pixels; a side may be 0. A walk starts at `p0`.
@@ -148,8 +148,8 @@ pub extern "C" fn bgz_edge2_overlapping_pixels_dda(
     p1: Vec2,
     list: &mut [u32],
 ) -> CountAnswer
-    ensures answers { result ≡ of_listed (overlapping_pixels_dda_of width height p0 p1 (entries list.old)) }
+    ensures answers { result ≡ count_answer_at_of (overlapping_pixels_dda_of width height p0 p1 (entries list.old)) }
     ensures promises { Promise true width height p0 p1 list.old (overlapping_pixels_dda_of width height p0 p1 (entries list.old)) list.new }
 {
-    c_answers::listed(pixels::overlapping_pixels_dda(width, height, p0, p1, list))
+    CountAnswer::from(pixels::overlapping_pixels_dda(width, height, p0, p1, list))
 }

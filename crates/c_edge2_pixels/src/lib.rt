@@ -3,7 +3,7 @@
 #![tactic(auto)]
 
 ghost use Rattle.std.specs.Prelude.{◌≡◌, false, length as entries};
-ghost use Rattle.c_answers.specs.Answers.{of_listed};
+ghost use Rattle.c_answers.specs.Answers.{count_answer_at_of};
 ghost use Rattle.pixels.specs.Answer.{pixels_inside_of};
 ghost use Rattle.pixels.specs.Promise.{Promise};
 ghost use Rattle.stroke_bound.specs.Bound.{pixels_bound_of};
@@ -28,10 +28,10 @@ pub extern "C" fn bgz_edge2_pixels_inside(
     p1: Vec2,
     list: &mut [u32],
 ) -> CountAnswer
-    ensures answers { result ≡ of_listed (pixels_inside_of width height p0 p1 (entries list.old)) }
+    ensures answers { result ≡ count_answer_at_of (pixels_inside_of width height p0 p1 (entries list.old)) }
     ensures promises { Promise false width height p0 p1 list.old (pixels_inside_of width height p0 p1 (entries list.old)) list.new }
 {
-    c_answers::listed(pixels::pixels_inside(width, height, p0, p1, list))
+    CountAnswer::from(pixels::pixels_inside(width, height, p0, p1, list))
 }
 
 // How many entries the stroke from `p0` to `p1` makes at most in an image of `width` by `height` pixels, the closing one among them: 2 * D + 2,
@@ -49,7 +49,7 @@ pub extern "C" fn bgz_edge2_pixels_bound(
     p0: Vec2,
     p1: Vec2,
 ) -> CountAnswer
-    ensures { result ≡ of_listed (pixels_bound_of width height p0 p1) }
+    ensures { result ≡ count_answer_at_of (pixels_bound_of width height p0 p1) }
 {
-    c_answers::listed(stroke_bound::pixels_bound(width, height, p0, p1))
+    CountAnswer::from(stroke_bound::pixels_bound(width, height, p0, p1))
 }

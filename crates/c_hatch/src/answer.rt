@@ -1,12 +1,13 @@
 // What a read of a hatch list answers, as C sees it.
 ghost use Rattle.std.specs.Prelude.{◌≡◌};
-ghost use Rattle.c_hatch.specs.Answer.{of_read};
 
+use c_answers::ANSWERED;
 use hatch_read::Read;
+use types::RefusalAt;
 
 // The version of a hatch list, and how many records were read.
 #[repr(C)]
-#[derive(Clone, Copy)]
+#[derive(Clone, Copy, Debug, PartialEq, Eq)]
 pub struct ReadAnswer {
     pub status: u32,
     // The version.
@@ -17,22 +18,26 @@ pub struct ReadAnswer {
     pub place: usize,
 }
 
-#[tactic(auto, unfolding(crate::specs::Answer::of_read))]
-pub fn read(a: Read) -> ReadAnswer
-    ensures { result ≡ of_read a }
-{
-    match a {
-        Read::Refused { number, place } => ReadAnswer {
-            status: number,
-            version: 0,
-            count: 0,
-            place,
-        },
-        Read::Accepted { version, count } => ReadAnswer {
-            status: 0,
-            version,
-            count,
-            place: 0,
-        },
+// By cases: three lookups, one of them for the place, are no plainer.
+impl From<Result<Read, RefusalAt>> for ReadAnswer {
+    ghost use Rattle.c_hatch.specs.Answer.{read_answer_of};
+
+    ghost from_gives = { λ answer told. told ≡ read_answer_of answer };
+
+    fn from(answer: Result<Read, RefusalAt>) -> ReadAnswer {
+        match answer {
+            Ok(Read { version, count }) => ReadAnswer {
+                status: ANSWERED,
+                version,
+                count,
+                place: 0,
+            },
+            Err(at) => ReadAnswer {
+                status: at.refusal.number(),
+                version: 0,
+                count: 0,
+                place: at.place,
+            },
+        }
     }
 }

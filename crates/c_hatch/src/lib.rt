@@ -14,8 +14,8 @@ ghost use Rattle.hatch_encode.specs.Encode.{bits_of, encode};
 ghost use Rattle.hatch_write.specs.Write.{write_of};
 ghost use Rattle.hatch_write.specs.Saved.{ReadBack, Rewritten};
 ghost use Rattle.report.specs.Report.{report_of};
-ghost use Rattle.c_answers.specs.Answers.{of_listed};
-ghost use Rattle.c_hatch.specs.Answer.{of_read};
+ghost use Rattle.c_answers.specs.Answers.{count_answer_of};
+ghost use Rattle.c_hatch.specs.Answer.{read_answer_of};
 
 use crate::answer::ReadAnswer;
 use c_answers::CountAnswer;
@@ -29,10 +29,10 @@ use c_answers::CountAnswer;
 // Example: "HSL\1\0\0\0", [] gives (1, 0).
 #[unsafe(no_mangle)]
 pub extern "C" fn bgz_hatch_read_floats(bytes: &[u8], out: &mut [f32]) -> ReadAnswer
-    ensures answers { result ≡ of_read (read_of (decode_into hsl rows (length out.old) bytes.now)) }
+    ensures answers { result ≡ read_answer_of (read_of (decode_into hsl rows (length out.old) bytes.now)) }
     ensures leaves { out.new ≡ read_leaves float_of (decode_into hsl rows (length out.old) bytes.now) out.old }
 {
-    crate::answer::read(hatch_read::read_floats(bytes, out))
+    ReadAnswer::from(hatch_read::read_floats(bytes, out))
 }
 
 // `hatch::read_floats` with each float as its bits, so that a NaN keeps them.
@@ -42,10 +42,10 @@ pub extern "C" fn bgz_hatch_read_floats(bytes: &[u8], out: &mut [f32]) -> ReadAn
 // Example: "HSL\1\0\0\0", [] gives (1, 0).
 #[unsafe(no_mangle)]
 pub extern "C" fn bgz_hatch_read_patterns(bytes: &[u8], out: &mut [u32]) -> ReadAnswer
-    ensures answers { result ≡ of_read (read_of (decode_into hsl rows (length out.old) bytes.now)) }
+    ensures answers { result ≡ read_answer_of (read_of (decode_into hsl rows (length out.old) bytes.now)) }
     ensures leaves { out.new ≡ read_leaves itself (decode_into hsl rows (length out.old) bytes.now) out.old }
 {
-    crate::answer::read(hatch_read::read_patterns(bytes, out))
+    ReadAnswer::from(hatch_read::read_patterns(bytes, out))
 }
 
 // How many records a list of floats has, eight floats each; an incomplete last one does not count.
@@ -67,12 +67,12 @@ pub extern "C" fn bgz_hatch_record_count(floats: &[f32]) -> usize
 // 0, 5, 0, 0, 0, 6, 0, 0, 0, 7, 0, 0, 0, 8, 0, 0, 0, 9].
 #[unsafe(no_mangle)]
 pub extern "C" fn bgz_hatch_write_patterns(patterns: &[u32], out: &mut [u8]) -> CountAnswer
-    ensures answers { result ≡ of_listed (write_of patterns.now out.old) }
+    ensures answers { result ≡ count_answer_of (write_of patterns.now out.old) }
     ensures leaves { out.new ≡ leaves (write_of patterns.now out.old) (encode hsl 1 patterns.now) out.old }
     ensures reads_back { ReadBack itself patterns.now (write_of patterns.now out.old) out.new }
     ensures rewrites { Rewritten patterns.now (write_of patterns.now out.old) out.old out.new }
 {
-    c_answers::listed(hatch_write::write_patterns(patterns, out))
+    CountAnswer::from(hatch_write::write_patterns(patterns, out))
 }
 
 // `hatch::write_patterns` from the floats themselves, n records of eight. A number is written with its own bits, the sign of a zero
@@ -84,11 +84,11 @@ pub extern "C" fn bgz_hatch_write_patterns(patterns: &[u32], out: &mut [u8]) -> 
 // 0, 0, 64, 0, 0, 192, 64, 0, 0, 128, 191, 0, 0, 128, 191, 0, 0, 128, 63, 9].
 #[unsafe(no_mangle)]
 pub extern "C" fn bgz_hatch_write_floats(floats: &[f32], out: &mut [u8]) -> CountAnswer
-    ensures answers { result ≡ of_listed (write_of floats.now out.old) }
+    ensures answers { result ≡ count_answer_of (write_of floats.now out.old) }
     ensures leaves { out.new ≡ leaves (write_of floats.now out.old) (encode hsl 1 (map bits_of floats.now)) out.old }
     ensures reads_back { ReadBack float_of floats.now (write_of floats.now out.old) out.new }
 {
-    c_answers::listed(hatch_write::write_floats(floats, out))
+    CountAnswer::from(hatch_write::write_floats(floats, out))
 }
 
 // The report on a hatch list, as text: each record clipped as a line. "HSL", version and count; then for each record a line with its

@@ -2,22 +2,37 @@
 #![tactic(auto)]
 
 ghost use Rattle.std.specs.Prelude.{◌≡◌};
-ghost use Rattle.c_answers.specs.Answers.{of_nearest};
-ghost use Rattle.obb2.specs.Corners.{corner_points_of};
+ghost use Rattle.c_answers.specs.Answers.{point_answer_of};
+ghost use Rattle.obb2.specs.Corners.{corners_of};
+ghost use Rattle.c_obb2.specs.Corners.{points_of};
 ghost use Rattle.obb2.specs.Point.{is_include_point2_of, nearest_point2_of};
 ghost use Rattle.obb2.specs.Promise.{IsIntersectObb2Promise};
 
 use c_answers::PointAnswer;
-use obb2::Corners;
 use types::{Obb2, Vec2};
+
+// Four corners, each joined to the next by an edge, and the last to the first.
+#[repr(C)]
+#[derive(Clone, Copy, Debug, PartialEq)]
+pub struct Corners {
+    // c + u + v.
+    pub p0: Vec2,
+    // c - u + v.
+    pub p1: Vec2,
+    // c - u - v.
+    pub p2: Vec2,
+    // c + u - v.
+    pub p3: Vec2,
+}
 
 // c + u + v, c - u + v, c - u - v, c + u - v.
 // Example: (1, 1, 2, 0, 0, 1) gives ((3, 2), (-1, 2), (-1, 0), (3, 0)).
 #[unsafe(no_mangle)]
 pub extern "C" fn bgz_obb2_corner_points(o: Obb2) -> Corners
-    ensures { result ≡ corner_points_of o }
+    ensures { points_of result ≡ corners_of o }
 {
-    obb2::corner_points(o)
+    let [p0, p1, p2, p3] = obb2::corner_points(o);
+    Corners { p0, p1, p2, p3 }
 }
 
 // Whether `p` is in `o`, edges included, by its dot products with u and v. A product that is a NaN counts as inside, and a half edge
@@ -35,9 +50,9 @@ pub extern "C" fn bgz_obb2_is_include_point2(o: Obb2, p: Vec2) -> bool
 // Example: (0, 0, 2, 0, 0, 1), (5, 0) gives (2, 0).
 #[unsafe(no_mangle)]
 pub extern "C" fn bgz_obb2_nearest_point2(o: Obb2, p: Vec2) -> PointAnswer
-    ensures { result ≡ of_nearest (nearest_point2_of o p) }
+    ensures { result ≡ point_answer_of (nearest_point2_of o p) }
 {
-    c_answers::nearest(obb2::nearest_point2(o, p))
+    PointAnswer::from(obb2::nearest_point2(o, p))
 }
 
 // Whether two turned boxes meet: no exactly if on some axis across a half edge of `a` or of `b` the computed projections of the corners

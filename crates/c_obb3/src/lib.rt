@@ -2,23 +2,56 @@
 #![tactic(auto)]
 
 ghost use Rattle.std.specs.Prelude.{◌≡◌};
-ghost use Rattle.c_answers.specs.Answers.{of_verdict};
-ghost use Rattle.obb3.specs.Corners.{corner_points_of};
+ghost use Rattle.c_answers.specs.Answers.{bool_answer_of};
+ghost use Rattle.obb3.specs.Corners.{corners_of};
+ghost use Rattle.c_obb3.specs.Corners.{points_of};
 ghost use Rattle.obb3.specs.Point.{is_include_point_of};
 ghost use Rattle.obb3.specs.Intersect.{is_intersect_to_obb3_of};
 ghost use Rattle.obb3.specs.Promise.{IsIntersectToObb3Promise};
 
 use c_answers::BoolAnswer;
-use obb3::Corners3;
 use types::{Obb3, Vec3};
+
+// Eight corners of space: four of one face, each joined to the next by an edge and the last to the first, then those of the opposite
+// face in the same order.
+#[repr(C)]
+#[derive(Clone, Copy, Debug, PartialEq)]
+pub struct Corners3 {
+    // c - u - v - w.
+    pub p0: Vec3,
+    // c + u - v - w.
+    pub p1: Vec3,
+    // c + u + v - w.
+    pub p2: Vec3,
+    // c - u + v - w.
+    pub p3: Vec3,
+    // c - u - v + w.
+    pub p4: Vec3,
+    // c + u - v + w.
+    pub p5: Vec3,
+    // c + u + v + w.
+    pub p6: Vec3,
+    // c - u + v + w.
+    pub p7: Vec3,
+}
 
 // c - u - v - w, c + u - v - w, c + u + v - w, c - u + v - w, and the same four with + w.
 // Example: (0, 0, 0, 1, 0, 0, 0, 2, 0, 0, 0, 3) gives ((-1, -2, -3), (1, -2, -3), (1, 2, -3), (-1, 2, -3), (-1, -2, 3), (1, -2, 3), (1, 2, 3), (-1, 2, 3)).
 #[unsafe(no_mangle)]
 pub extern "C" fn bgz_obb3_corner_points(o: Obb3) -> Corners3
-    ensures { result ≡ corner_points_of o }
+    ensures { points_of result ≡ corners_of o }
 {
-    obb3::corner_points(o)
+    let [p0, p1, p2, p3, p4, p5, p6, p7] = obb3::corner_points(o);
+    Corners3 {
+        p0,
+        p1,
+        p2,
+        p3,
+        p4,
+        p5,
+        p6,
+        p7,
+    }
 }
 
 // Whether `p` is in `o`, faces included, by its dot products with u, v and w, each edge stretched by 1 + `eps`. A product that is a NaN
@@ -40,8 +73,8 @@ pub extern "C" fn bgz_obb3_is_include_point(o: Obb3, p: Vec3, eps: f32) -> bool
 // Example: (0, 0, 0, 1, 0, 0, 0, 1, 0, 0, 0, 1), (3, 0, 0, 1, 0, 0, 0, 1, 0, 0, 0, 1) gives false.
 #[unsafe(no_mangle)]
 pub extern "C" fn bgz_obb3_is_intersect_to_obb3(a: Obb3, b: Obb3) -> BoolAnswer
-    ensures answers { result ≡ of_verdict (is_intersect_to_obb3_of a b) }
+    ensures answers { result ≡ bool_answer_of (is_intersect_to_obb3_of a b) }
     ensures promises { IsIntersectToObb3Promise a b (is_intersect_to_obb3_of a b) }
 {
-    c_answers::verdict(obb3::is_intersect_to_obb3(a, b))
+    BoolAnswer::from(obb3::is_intersect_to_obb3(a, b))
 }

@@ -1,4 +1,5 @@
-// Edges, segments from one point to another: each routine under its name, whichever crate has it.
+// Edges, segments from one point to another: each routine under its name, whichever crate has it. An edge is given by its two ends, as in the
+// source and in C: a struct of the two would be made by each caller and taken apart here.
 #![tactic(auto)]
 
 pub use edge2_inside::intersection_length_against_aabb2;

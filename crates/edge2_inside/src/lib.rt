@@ -4,10 +4,10 @@
 ghost use Rattle.std.specs.Prelude.{◌≡◌};
 ghost use Rattle.edge2_inside.specs.Inside.{shared_of, diagonal_of, intersection_length_against_aabb2_of};
 
-use types::{Aabb2, Extent, Length, Range, Vec2};
+use types::{Aabb2, Range, Refusal, Vec2};
 
 // What the box's range and the range between the edge's two ends share in one dimension.
-fn shared(low: f32, high: f32, s: f32, e: f32) -> Extent
+fn shared(low: f32, high: f32, s: f32, e: f32) -> Result<Option<f32>, Refusal>
     ensures { result ≡ shared_of low high s e }
 {
     range::intersection_length(
@@ -21,23 +21,25 @@ fn shared(low: f32, high: f32, s: f32, e: f32) -> Extent
 
 // The diagonal of the overlaps in x and in y; 0 where there is none. A refusal in y counts only where x has an overlap.
 #[tactic(auto, unfolding(crate::specs::Inside::diagonal_of))]
-fn diagonal(x: Extent, y: Extent) -> Length
+fn diagonal(
+    x: Result<Option<f32>, Refusal>,
+    y: Result<Option<f32>, Refusal>,
+) -> Result<f32, Refusal>
     ensures { result ≡ diagonal_of x y }
 {
-    match x {
-        Extent::None => Length::Some(0.0),
-        Extent::Refused(n) => Length::Refused(n),
-        Extent::Some(dx) => match y {
-            Extent::None => Length::Some(0.0),
-            Extent::Refused(n) => Length::Refused(n),
-            Extent::Some(dy) => Length::Some(root::sqrt(dx * dx + dy * dy)),
-        },
-    }
+    let Some(dx) = x? else {
+        return Ok(0.0);
+    };
+    let Some(dy) = y? else {
+        return Ok(0.0);
+    };
+    // Written out: as a vector, made for its dot product alone, it is no plainer.
+    Ok(root::sqrt(dx * dx + dy * dy))
 }
 
 // Refused where a range is not ordered, y only once x has an overlap.
 #[tactic(auto, unfolding(crate::specs::Inside::intersection_length_against_aabb2_of))]
-pub fn intersection_length_against_aabb2(s: Vec2, e: Vec2, b: Aabb2) -> Length
+pub fn intersection_length_against_aabb2(s: Vec2, e: Vec2, b: Aabb2) -> Result<f32, Refusal>
     ensures { result ≡ intersection_length_against_aabb2_of s e b }
 {
     diagonal(

@@ -5,34 +5,29 @@ ghost use Rattle.std.specs.Prelude.{◌≡◌};
 ghost use Rattle.edge2_measure.specs.Measure.{length_of, squared_length_of, unit_edge_vector_of, position_from_ratio_of, ratio_from_position_of, culling_intersection_of};
 ghost use Rattle.edge2_measure.specs.Measure.{spread_of, slack_of, below_of};
 
-use types::Vec2;
+use types::{Vec2, Vector};
 
 pub fn length(s: Vec2, e: Vec2) -> f32
     ensures { result ≡ length_of s e }
 {
-    let dx = s.x - e.x;
-    let dy = s.y - e.y;
-    root::sqrt(dx * dx + dy * dy)
+    vec2::length(s - e)
 }
 
 pub fn squared_length(s: Vec2, e: Vec2) -> f32
     ensures { result ≡ squared_length_of s e }
 {
-    let dx = s.x - e.x;
-    let dy = s.y - e.y;
-    dx * dx + dy * dy
+    vec2::squared_length(s - e)
 }
 
 // The edge's direction, of length one but for rounding. An edge of no length gives what the division gives.
 pub fn unit_edge_vector(s: Vec2, e: Vec2) -> Vec2
     ensures { result ≡ unit_edge_vector_of s e }
 {
-    let dx = e.x - s.x;
-    let dy = e.y - s.y;
-    let inverse = 1.0 / root::sqrt(dx * dx + dy * dy);
+    let d = e - s;
+    let inverse = 1.0 / vec2::length(d);
     Vec2 {
-        x: dx * inverse,
-        y: dy * inverse,
+        x: d.x * inverse,
+        y: d.y * inverse,
     }
 }
 
@@ -50,9 +45,8 @@ pub fn position_from_ratio(p0: Vec2, p1: Vec2, ratio: f32) -> Vec2
 pub fn ratio_from_position(ps: Vec2, pe: Vec2, q: Vec2) -> f32
     ensures { result ≡ ratio_from_position_of ps pe q }
 {
-    let vx = pe.x - ps.x;
-    let vy = pe.y - ps.y;
-    (vx * q.x + vy * q.y) / root::sqrt(vx * vx + vy * vy)
+    let v = pe - ps;
+    v.dot(q) / vec2::length(v)
 }
 
 // How far apart two coordinates are.
@@ -62,12 +56,12 @@ fn spread(a: f32, b: f32) -> f32
     float::max(a, b) - float::min(a, b)
 }
 
-// How far two edges may lie apart and still count as touching: the sum of their spreads times 2 ^ -23.
+// How far two edges may lie apart and still count as touching: the sum of their spreads times EPSILON, 2 ^ -23.
 fn slack(s0: Vec2, e0: Vec2, s1: Vec2, e1: Vec2) -> f32
     ensures { result ≡ slack_of s0 e0 s1 e1 }
 {
     (spread(s0.x, e0.x) + spread(s0.y, e0.y) + spread(s1.x, e1.x) + spread(s1.y, e1.y))
-        * 0.00000011920929
+        * f32::EPSILON
 }
 
 // Whether the range of a and b lies below that of c and d, by more than the slack.

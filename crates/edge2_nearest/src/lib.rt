@@ -4,11 +4,11 @@
 ghost use Rattle.std.specs.Prelude.{◌≡◌};
 ghost use Rattle.edge2_nearest.specs.Nearest.{nearest_origin_of, nearest_to_point_of};
 
-use types::Vec2;
+use types::{Vec2, Vector};
 
 // A point of an edge, and its ratio along the edge.
 #[repr(C)]
-#[derive(Clone, Copy)]
+#[derive(Clone, Copy, Debug, PartialEq)]
 pub struct OnEdge {
     // 0 at the first end, 1 at the second.
     pub ratio: f32,
@@ -21,9 +21,8 @@ pub struct OnEdge {
 pub fn nearest_origin(s: Vec2, e: Vec2) -> OnEdge
     ensures { result ≡ nearest_origin_of s e }
 {
-    let dx = e.x - s.x;
-    let dy = e.y - s.y;
-    let a = dx * dx + dy * dy;
+    let d = e - s;
+    let a = d.dot(d);
     if a == 0.0 {
         return OnEdge {
             ratio: 0.5,
@@ -33,7 +32,7 @@ pub fn nearest_origin(s: Vec2, e: Vec2) -> OnEdge
             },
         };
     }
-    let b = dx * s.x + dy * s.y;
+    let b = d.dot(s);
     let ratio = float::clamp(-b / a, 0.0, 1.0);
     OnEdge {
         ratio,
@@ -49,13 +48,9 @@ pub fn nearest_origin(s: Vec2, e: Vec2) -> OnEdge
 pub fn nearest_to_point(s: Vec2, e: Vec2, p: Vec2) -> OnEdge
     ensures { result ≡ nearest_to_point_of s e p }
 {
-    let near = nearest_origin(vec2::sub(s, p), vec2::sub(e, p));
-    let at = near.point;
+    let near = nearest_origin(s - p, e - p);
     OnEdge {
         ratio: near.ratio,
-        point: Vec2 {
-            x: at.x + p.x,
-            y: at.y + p.y,
-        },
+        point: near.point + p,
     }
 }

@@ -1,6 +1,7 @@
 -- Document 01's lines against one box in one call, their falling twins, and what is refused. Definitions only.
 use Rattle.std.specs.Prelude.{List, [], ◌∷◌, Float}
 use Rattle.types.specs.declared.shape.Aabb2.{Aabb2}
+use Rattle.types.specs.declared.refusal.Refusal.TheVariants.{Room, Lines}
 use Rattle.figures.specs.Table.{plus, minus, box, face, face_refused}
 
 abbrev right : Aabb2
@@ -53,7 +54,7 @@ faces =
     -- no line
     ∷ face right [] []
     -- five floats: 14, whether there is room for one line or not; one line with room for two entries: 1
-    ∷ face_refused right five 3 14
-    ∷ face_refused right five 2 14
-    ∷ face_refused right one 2 1
+    ∷ face_refused right five 3 Lines
+    ∷ face_refused right five 2 Lines
+    ∷ face_refused right one 2 Room
     ∷ []

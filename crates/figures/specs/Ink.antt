@@ -1,11 +1,12 @@
 -- Document 02's stroke that cuts a corner of a box, its falling twins and others: ink is the length from where the stroke comes into the box, or
 -- starts, to where it leaves it, or ends. Definitions only.
-use Rattle.std.specs.Prelude.{List, [], ◌∷◌}
+use Rattle.std.specs.Prelude.{List, [], ◌∷◌, Float, Result, Ok, Err}
 use Rattle.std.specs.Float.{nan}
 use Rattle.types.specs.declared.shape.Vec2.{Vec2}
 use Rattle.types.specs.declared.shape.Aabb2.{Aabb2}
-use Rattle.types.specs.declared.answer.Ink.{Ink}
-use Rattle.types.specs.declared.answer.Ink.TheVariants.{Some, Refused, RefusedAt}
+use Rattle.types.specs.declared.refusal.Refusal.TheVariants.{Coordinate, Order, NotFinite}
+use Rattle.types.specs.declared.refusal.RefusalAt.{RefusalAt}
+use Rattle.types.specs.Refusal.{refusal_at, nowhere}
 use Rattle.edge2_measure.specs.Measure.{length_of}
 use Rattle.figures.specs.Table.{plus, minus, halves, quarters, at, box, ink}
 
@@ -15,8 +16,8 @@ unit = box (plus 0) (plus 0) (plus 1) (plus 1)
 abbrev reversed : Aabb2
 reversed = box (plus 1) (plus 0) (plus 0) (plus 1)
 
-abbrev between : Vec2 → Vec2 → Ink
-between p q = Some (length_of p q)
+abbrev between : Vec2 → Vec2 → Result Float RefusalAt
+between p q = Ok (length_of p q)
 
 abbrev pub inks : List (Type 0)
 inks =
@@ -33,10 +34,10 @@ inks =
     ∷ ink (at (quarters 1) (quarters 1)) (at (quarters 3) (halves 1)) unit (between (at (quarters 1) (quarters 1)) (at (quarters 3) (halves 1)))
     -- of no length: inside, and outside; short of the box, -3 0.5 to -1 0.5, though its line hits it
     ∷ ink (at (halves 1) (halves 1)) (at (halves 1) (halves 1)) unit (between (at (halves 1) (halves 1)) (at (halves 1) (halves 1)))
-    ∷ ink (at (plus 2) (plus 2)) (at (plus 2) (plus 2)) unit (Some (plus 0))
-    ∷ ink (at (minus 3) (halves 1)) (at (minus 1) (halves 1)) unit (Some (plus 0))
+    ∷ ink (at (plus 2) (plus 2)) (at (plus 2) (plus 2)) unit (Ok (plus 0))
+    ∷ ink (at (minus 3) (halves 1)) (at (minus 1) (halves 1)) unit (Ok (plus 0))
     -- a coordinate is refused before the box is
-    ∷ ink (at (plus 0) (plus 0)) (at (plus 0) nan) reversed (RefusedAt 15 3)
-    ∷ ink (at (plus 0) (plus 0)) (at (plus 65537) (plus 0)) reversed (RefusedAt 3 2)
-    ∷ ink (at (plus 0) (plus 0)) (at (plus 4) (plus 1)) reversed (Refused 5)
+    ∷ ink (at (plus 0) (plus 0)) (at (plus 0) nan) reversed (Err (refusal_at NotFinite 3))
+    ∷ ink (at (plus 0) (plus 0)) (at (plus 65537) (plus 0)) reversed (Err (refusal_at Coordinate 2))
+    ∷ ink (at (plus 0) (plus 0)) (at (plus 4) (plus 1)) reversed (Err (nowhere Order))
     ∷ []

@@ -1,8 +1,6 @@
 -- The starred rows of document 01's table of figures, in its order, each under its words there. Definitions only.
-use Rattle.std.specs.Prelude.{List, [], ◌∷◌}
-use Rattle.types.specs.declared.answer.Interval.TheVariants.{Miss, Hit}
-use Rattle.types.specs.declared.answer.Extent.TheVariants as extent
-use Rattle.types.specs.declared.answer.Pixels.TheVariants as pixels
+use Rattle.std.specs.Prelude.{List, [], ◌∷◌, None, Some, Ok}
+use Rattle.slabs.specs.declared.Interval.TheVariants.{Miss, Hit}
 use Rattle.tiles.specs.Answer.{sheet}
 use Rattle.figures.specs.Table.{plus, minus, halves, at, range, box, line, ray, overlap, raster, tiles, stroke}
 
@@ -21,10 +19,10 @@ starred =
     -- ray, point 4 1, direction 1 0: hit -4, 0
     ∷ ray (box (plus 0) (plus 0) (plus 4) (plus 2)) (at (plus 4) (plus 1)) (at (plus 1) (plus 0)) (Hit (minus 4) (plus 0))
     -- overlap of 0..2 and 2..3: none; of 0..2 and 1..3 it is 1
-    ∷ overlap (range (plus 0) (plus 2)) (range (plus 2) (plus 3)) extent.None
-    ∷ overlap (range (plus 0) (plus 2)) (range (plus 1) (plus 3)) (extent.Some (plus 1))
+    ∷ overlap (range (plus 0) (plus 2)) (range (plus 2) (plus 3)) (Ok None)
+    ∷ overlap (range (plus 0) (plus 2)) (range (plus 1) (plus 3)) (Ok (Some (plus 1)))
     -- raster 0.5 0.5 2.5 1.5, image 4 by 4: 0 0 2 1
-    ∷ raster (box (halves 1) (halves 1) (halves 5) (halves 3)) 4 4 (pixels.Some 0 0 2 1)
+    ∷ raster (box (halves 1) (halves 1) (halves 5) (halves 3)) 4 4 (Ok (record { x0 = 0; y0 = 0; x1 = 2; y1 = 1 }))
     -- tiles 10 10 40 20, size 16, shape 4 by 3: 0 1 2 4 5 6
     ∷ tiles (box (plus 10) (plus 10) (plus 40) (plus 20)) (sheet 16 4 3) (0 ∷ 1 ∷ 2 ∷ 4 ∷ 5 ∷ 6 ∷ [])
     -- tiles 10 10 32 15, same: 0 1 2

@@ -1,17 +1,17 @@
 -- How document 01's table of figures is written: its numbers, its shapes, and what a row of each kind says. Definitions only.
 use Prim.{Unit}
-use Rattle.std.specs.Prelude.{◌≡◌, Bool, true, false, List, [], ◌∷◌, ℕ, ◌-◌, length, Float}
+use Rattle.std.specs.Prelude.{◌≡◌, Bool, true, false, List, [], ◌∷◌, ℕ, ◌-◌, length, Float, Option, Result, Ok, Err}
 use Rattle.std.specs.Float.{binary32}
 use Rattle.std.specs.Float.Ieee.{round}
 use Rattle.types.specs.declared.shape.Vec2.{Vec2}
 use Rattle.types.specs.declared.shape.Range.{Range}
 use Rattle.types.specs.declared.shape.Aabb2.{Aabb2}
-use Rattle.types.specs.declared.answer.Interval.{Interval}
-use Rattle.types.specs.declared.answer.Extent.{Extent}
+use Rattle.slabs.specs.declared.Interval.{Interval}
 use Rattle.types.specs.declared.answer.Pixels.{Pixels}
-use Rattle.types.specs.declared.answer.Listed.{Listed}
-use Rattle.types.specs.declared.answer.Listed.TheVariants.{Count, Refused}
-use Rattle.types.specs.declared.answer.Ink.{Ink}
+use Rattle.types.specs.declared.refusal.Refusal.{Refusal}
+use Rattle.types.specs.declared.refusal.Refusal.TheVariants.{Room}
+use Rattle.types.specs.declared.refusal.RefusalAt.{RefusalAt}
+use Rattle.types.specs.Refusal.{nowhere}
 use Rattle.range.specs.Values.{intersection_length_of}
 use Rattle.aabb.specs.Clip.{intersections_against_line_of, intersections_against_ray_of}
 use Rattle.aabb_lines.specs.Results.{results_of}
@@ -61,28 +61,28 @@ ray b point direction answer = intersections_against_ray_of b point direction �
 
 -- the lines of a face by their floats: the results are these, and a list with just room for them is accepted
 abbrev pub face : Aabb2 → List Float → List Float → Type 0
-face b lines results = (results_of b lines ≡ results) × (intersections_against_lines_of b lines (length results) ≡ Count (length results))
+face b lines results = (results_of b lines ≡ results) × (intersections_against_lines_of b lines (length results) ≡ Ok (length results))
 
--- they are refused by this number, for a list of results of this length
-abbrev pub face_refused : Aabb2 → List Float → ℕ → ℕ → Type 0
-face_refused b lines room number = intersections_against_lines_of b lines room ≡ Refused number
+-- they are refused so, for a list of results of this length
+abbrev pub face_refused : Aabb2 → List Float → ℕ → Refusal → Type 0
+face_refused b lines room refusal = intersections_against_lines_of b lines room ≡ Err refusal
 
-abbrev pub overlap : Range → Range → Extent → Type 0
+abbrev pub overlap : Range → Range → Result (Option Float) Refusal → Type 0
 overlap a b answer = intersection_length_of a b ≡ answer
 
-abbrev pub raster : Aabb2 → ℕ → ℕ → Pixels → Type 0
+abbrev pub raster : Aabb2 → ℕ → ℕ → Result Pixels Refusal → Type 0
 raster b width height answer = rasterize_of b width height ≡ answer
 
 -- the tiles are these, and a list with just room for them is accepted
 abbrev pub tiles : Aabb2 → Sheet → List ℕ → Type 0
-tiles b sheet numbers = (tiles_of sheet b ≡ numbers) × (overlapping_tiles_of sheet b (length numbers) ≡ Count (length numbers))
+tiles b sheet numbers = (tiles_of sheet b ≡ numbers) × (overlapping_tiles_of sheet b (length numbers) ≡ Ok (length numbers))
 
 -- the same of a stroke's entries, with the closing one or without it; and a list shorter by one is refused
 abbrev pub walk : Bool → Vec2 → Vec2 → ℕ → ℕ → List ℕ → Type 0
 walk closing p q width height numbers =
     (stroke_of closing width height p q ≡ numbers)
-    × (walk_of closing width height p q (length numbers) ≡ Count (length numbers))
-    × (walk_of closing width height p q (length numbers - 1) ≡ Refused 1)
+    × (walk_of closing width height p q (length numbers) ≡ Ok (length numbers))
+    × (walk_of closing width height p q (length numbers - 1) ≡ Err (nowhere Room))
 
 abbrev pub stroke : Vec2 → Vec2 → ℕ → ℕ → List ℕ → Type 0
 stroke = walk true
@@ -92,14 +92,14 @@ inside = walk false
 
 -- how many entries the stroke makes at most, the closing one among them
 abbrev pub bound : Vec2 → Vec2 → ℕ → ℕ → ℕ → Type 0
-bound p q width height number = pixels_bound_of width height p q ≡ Count number
+bound p q width height number = pixels_bound_of width height p q ≡ Ok number
 
 -- a stroke is refused so by both walks, whatever the length of the list
-abbrev pub stroke_refused : Vec2 → Vec2 → ℕ → ℕ → Listed → Type 0
-stroke_refused p q width height answer = (closing : Bool) (room : ℕ) → walk_of closing width height p q room ≡ answer
+abbrev pub stroke_refused : Vec2 → Vec2 → ℕ → ℕ → RefusalAt → Type 0
+stroke_refused p q width height refusal = (closing : Bool) (room : ℕ) → walk_of closing width height p q room ≡ Err refusal
 
 -- the ink that a stroke leaves in a box
-abbrev pub ink : Vec2 → Vec2 → Aabb2 → Ink → Type 0
+abbrev pub ink : Vec2 → Vec2 → Aabb2 → Result Float RefusalAt → Type 0
 ink p q b answer = ink_of p q b ≡ answer
 
 -- ---- the claim about a list of rows: each of them holds

@@ -1,7 +1,7 @@
 -- The falling twins of document 01's starred lines, ray and stroke, in its order: x mirrored, so that what leans one way leans the other.
 -- The first and the third line are twins of each other already. Definitions only.
 use Rattle.std.specs.Prelude.{List, [], ◌∷◌}
-use Rattle.types.specs.declared.answer.Interval.TheVariants.{Miss, Hit}
+use Rattle.slabs.specs.declared.Interval.TheVariants.{Miss, Hit}
 use Rattle.figures.specs.Table.{plus, minus, halves, at, box, line, ray, stroke}
 
 abbrev pub twins : List (Type 0)

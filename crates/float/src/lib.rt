@@ -6,33 +6,29 @@ ghost use Rattle.std.specs.Float.Ieee.Scale.{finite};
 ghost use Rattle.float.specs.Values.{abs_of, min_of, max_of, clamp_of, lesser_of, greater_of, number_or_of};
 
 // 2 ^ 23: the weight of the leading one of an f32's 24 binary digits, and of the exponent's field among its bits.
-pub const LEADING: u32 = 8388608;
+pub const LEADING: u32 = 1 << 23;
 
+#[tactic(auto, using(crate::proofs::Library::without_sign))]
 pub fn abs(x: f32) -> f32
     ensures { result ≡ abs_of x }
 {
-    if x < 0.0 {
-        -x
-    } else if x == 0.0 {
-        0.0
-    } else {
-        x
-    }
+    x.abs()
 }
 
 // Neither infinite nor a NaN.
+#[tactic(auto, using(crate::proofs::Library::is_finite))]
 pub fn is_finite(x: f32) -> bool
     ensures { result ≡ finite x }
 {
-    abs(x) < 1.0 / 0.0
+    x.is_finite()
 }
 
 // The smaller of two numbers, and the other one where one is a NaN.
-#[tactic(auto, using(crate::proofs::Tests::differs, crate::proofs::Tests::same), unfolding(crate::specs::Values::min_of))]
+#[tactic(auto, unfolding(crate::specs::Values::min_of))]
 pub fn min(a: f32, b: f32) -> f32
     ensures { result ≡ min_of a b }
 {
-    if a != a {
+    if a.is_nan() {
         b
     } else if b < a {
         b
@@ -42,11 +38,11 @@ pub fn min(a: f32, b: f32) -> f32
 }
 
 // The larger of two numbers, and the other one where one is a NaN.
-#[tactic(auto, using(crate::proofs::Tests::differs, crate::proofs::Tests::same), unfolding(crate::specs::Values::max_of))]
+#[tactic(auto, unfolding(crate::specs::Values::max_of))]
 pub fn max(a: f32, b: f32) -> f32
     ensures { result ≡ max_of a b }
 {
-    if a != a {
+    if a.is_nan() {
         b
     } else if b > a {
         b
@@ -83,9 +79,9 @@ pub fn greater(a: f32, b: f32) -> f32
 }
 
 // a, or b in the place of a NaN.
-#[tactic(auto, using(crate::proofs::Tests::differs, crate::proofs::Tests::same), unfolding(crate::specs::Values::number_or_of))]
+#[tactic(auto, unfolding(crate::specs::Values::number_or_of))]
 pub fn number_or(a: f32, b: f32) -> f32
     ensures { result ≡ number_or_of a b }
 {
-    if a != a { b } else { a }
+    if a.is_nan() { b } else { a }
 }

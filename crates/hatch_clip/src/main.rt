@@ -1,10 +1,9 @@
 // Reads a hatch list on standard input and prints the report on it.
 #![tactic(auto)]
 
-ghost use Rattle.std.specs.Prelude.{length};
-ghost use Rattle.hatch_clip.specs.Input.{Within};
+ghost use Rattle.std.specs.Prelude.{◌≤◌, length, IfOk};
 
-use std::io::Read;
+use std::io::{self, Read};
 
 // The longest file has 64,007 bytes. One byte more tells a longer file, which is refused and not cut.
 const BYTES: usize = 64008;
@@ -12,35 +11,25 @@ const BYTES: usize = 64008;
 // No report is longer.
 const REPORT: usize = 54014;
 
-// What was read: how many bytes, or that a read failed.
-#[derive(Drop)]
-enum Input {
-    Bytes(usize),
-    Failed,
-}
-
-// Reads until the buffer is full or the input ends.
-#[tactic(auto, unfolding(crate::specs::Input::Within))]
-fn read_all(from: &mut impl Read, buffer: &mut [u8]) -> Input
-    ensures { Within (length buffer.old) result }
+// Reads until the buffer is full or the input ends; the answer is how many bytes. `read_exact` fails where the input ends first, and
+// `read_to_end` takes a list on the heap.
+fn read_all(from: &mut impl Read, buffer: &mut [u8]) -> io::Result<usize>
+    ensures { IfOk result (λ n. n ≤ length buffer.old) }
 {
     let mut n = 0;
     while n < buffer.len() {
-        let Ok(more) = from.read(&mut buffer[n..]) else {
-            return Input::Failed;
-        };
+        let more = from.read(&mut buffer[n..])?;
         if more == 0 {
-            return Input::Bytes(n);
+            break;
         }
         n += more;
     }
-    Input::Bytes(n)
+    Ok(n)
 }
 
-#[tactic(auto, unfolding(crate::specs::Input::Within))]
 fn main(rt: HostRuntime) {
     let mut bytes = [0u8; BYTES];
-    let Input::Bytes(n) = read_all(&mut rt.stdin(), &mut bytes) else {
+    let Ok(n) = read_all(&mut rt.stdin(), &mut bytes) else {
         let _ = rt.eprint("hatch_clip: cannot read standard input\n");
         return;
     };

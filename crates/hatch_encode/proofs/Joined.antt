@@ -1,6 +1,6 @@
 -- Entries that stand one after the other, each of w places, and the parts of a list.
 use mathlib.Core.Path.{◌≡◌, refl, sym, ap, ◌∙◌}
-use mathlib.Core.List.{List, [], ◌∷◌, ◌++◌, map, append_assoc, append-nil}
+use mathlib.Core.List.{List, [], ◌∷◌, ◌++◌, append_assoc, append-nil}
 use Prim.Native.Nat.{ℕ, zero, suc, ◌+◌, ◌*◌, ◌<◌, ◌≤◌}
 use native.Mathlib.Nat.{mul-zero, mul-suc}
 use native.Mathlib.Numerals.{add-one}
@@ -86,15 +86,6 @@ module _ {A B : Type 0} (f : A → List B) where
       where
         front : Wide (take k s)
         front i g = let j : i < k = omega (arith, length-take k s) in ap (λ (x : A). length (f x)) (get_or-take k s i d j) ∙ e i (omega arith)
-
-    pub stored_none : (s : List A) (l : List B) (at : ℕ) → l ≡ sets l at (joined f (take 0 s))
-    unfolding joined
-    stored_none s l at = refl
-
-pub joined_map : {A B C : Type 0} (f : B → List C) (g : A → B) (s : List A) → joined f (map g s) ≡ joined (λ (x : A). f (g x)) s
-unfolding joined
-joined_map f g [] = refl
-joined_map f g (x ∷ s) = ap (λ (r : List _). f (g x) ++ r) (joined_map f g s)
 
 -- ---- records
 

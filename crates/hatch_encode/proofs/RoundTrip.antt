@@ -10,12 +10,12 @@ use Rattle.lists.specs.Places.{upto}
 use Rattle.lists.proofs.Entries.{get_d_upto, listed}
 use Rattle.lists.proofs.Fill.{length_upto}
 use Rattle.hatch_format.specs.Bytes.{half_at, word_from}
-use Rattle.hatch_format.specs.Format.{layout_of, record_place, head_of}
+use Rattle.hatch_format.specs.Format.{layout_of, record_place, head, head_of}
 use Rattle.hatch_format.specs.Decode.{record_count_of, pattern_at_of, patterns_of, accepted, body_of, decode}
 use Rattle.hatch_format.specs.declared.header.Row.{Row}
-use Rattle.hatch_format.specs.declared.header.Layout.TheVariants.{Known}
 use Rattle.hatch_format.specs.declared.header.Head.{Head}
-use Rattle.hatch_format.specs.declared.header.Head.TheVariants.{Accepted}
+use Rattle.std.specs.Prelude.{Some, Result}
+use Rattle.types.specs.declared.refusal.RefusalAt.{RefusalAt}
 use Rattle.hatch_format.proofs.Table.{found_version}
 use Rattle.hatch_format.proofs.Accepted.{accepted_file, taken}
 use Rattle.hatch_encode.specs.Encode.{word_bytes, joined, record_in, records_in, whole_records, file_of, record_bytes, encode}
@@ -142,7 +142,7 @@ decodes_encoded mark table r three is wide ps small few =
     let n = record_count_of ps in
     let rs = records_in ps in
     let count = count_records ps in
-    ap (λ (h : Head). body_of h b) (accepts_written (List ℕ) record_bytes [] mark table r three is rs (omega (arith, count, few)) (λ i h. records_wide ps i h ∙ sym wide))
+    ap (λ (h : Result Head RefusalAt). body_of h b) (accepts_written (List ℕ) record_bytes [] mark table r three is rs (omega (arith, count, few)) (λ i h. records_wide ps i h ∙ sym wide))
     ∙ ap (λ (k : ℕ). accepted v k (patterns_of r.width b k)) count
     ∙ ap (λ (w : ℕ). accepted v n (patterns_of w b n)) wide
     ∙ ap (accepted v n) (patterns_written mark three v ps small)
@@ -159,11 +159,11 @@ encodes_decoded mark table r three is wide b n ps small e =
     let whole : length b ≡ 7 + 32 * n = f.whole ∙ ap (λ (w : ℕ). 7 + w * n) width in
     let read : patterns_of 32 b n ≡ ps = ap (λ (w : ℕ). patterns_of w b n) (sym width) ∙ t.patterns in
     let count : length (records_in (patterns_of 32 b n)) ≡ n = count_records (patterns_of 32 b n) ∙ count_read b small n whole in
-    let head : head_of mark table b ≡ Accepted r (length (records_in (patterns_of 32 b n))) =
-    t.is ∙ ap (λ (q : Row). Accepted q n) same ∙ ap (Accepted r) (sym count) in
+    let begins : head_of mark table b ≡ head r (length (records_in (patterns_of 32 b n))) =
+    t.is ∙ ap (λ (q : Row). head q n) same ∙ ap (head r) (sym count) in
     ap (λ (s : List ℕ). file_of record_bytes mark r.version (records_in s)) (sym read)
-    ∙ writes_accepted (List ℕ) record_bytes [] mark table r three b small (records_in (patterns_of 32 b n)) head
+    ∙ writes_accepted (List ℕ) record_bytes [] mark table r three b small (records_in (patterns_of 32 b n)) begins
     (λ i h. records_again b small n whole i h ∙ ap (λ (w : ℕ). record_part w b i) (sym wide))
   where
-    same_row : (q r : Row) → Known q ≡ Known r → q ≡ r
+    same_row : (q r : Row) → Some q ≡ Some r → q ≡ r
     same_row q r e = cc

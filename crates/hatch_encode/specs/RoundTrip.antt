@@ -1,11 +1,9 @@
 -- Reading and writing undo each other, for any mark of three bytes and any table of versions: first for records of any kind and width, by the
 -- bytes of each, then for records of eight floats. The proofs are in proofs/Files.antt and proofs/RoundTrip.antt. Definitions only.
-use Rattle.std.specs.Prelude.{◌≡◌, List, ℕ, ◌*◌, ◌<◌, ◌≤◌, length, get_or, take, drop}
-use Rattle.hatch_format.specs.Format.{layout_of, head_of}
+use Rattle.std.specs.Prelude.{◌≡◌, List, ℕ, ◌*◌, ◌<◌, ◌≤◌, length, get_or, take, drop, Some}
+use Rattle.hatch_format.specs.Format.{layout_of, head, head_of}
 use Rattle.hatch_format.specs.Decode.{record_count_of, accepted, decode}
 use Rattle.hatch_format.specs.declared.header.Row.{Row}
-use Rattle.hatch_format.specs.declared.header.Layout.TheVariants.{Known}
-use Rattle.hatch_format.specs.declared.header.Head.TheVariants.{Accepted}
 use Rattle.hatch_encode.specs.Encode.{whole_records, file_of, encode}
 
 -- each number of a list is below the bound
@@ -14,7 +12,7 @@ Below bound l = (k : ℕ) → get_or l k 0 < bound
 
 -- a version of the table, whose numbers fit their two bytes
 pub record InTable (table : List Row) (r : Row) : Type 0 where
-  pub known : layout_of table r.version ≡ Known r
+  pub known : layout_of table r.version ≡ Some r
   pub version : r.version < 65536
   pub limit : r.limit < 65536
 
@@ -27,13 +25,13 @@ abbrev pub AcceptsWritten : Type 1
 AcceptsWritten =
     (A : Type 0) (f : A → List ℕ) (d : A) (mark : List ℕ) (table : List Row) (r : Row) → length mark ≡ 3 → InTable table r
     → (rs : List A) → length rs ≤ r.limit → ((i : ℕ) → i < length rs → length (f (get_or rs i d)) ≡ r.width)
-    → head_of mark table (file_of f mark r.version rs) ≡ Accepted r (length rs)
+    → head_of mark table (file_of f mark r.version rs) ≡ head r (length rs)
 
 -- records whose bytes, by f, are those of an accepted file: their file is that one
 abbrev pub WritesAccepted : Type 1
 WritesAccepted =
     (A : Type 0) (f : A → List ℕ) (d : A) (mark : List ℕ) (table : List Row) (r : Row) → length mark ≡ 3
-    → (b : List ℕ) → Below 256 b → (rs : List A) → head_of mark table b ≡ Accepted r (length rs)
+    → (b : List ℕ) → Below 256 b → (rs : List A) → head_of mark table b ≡ head r (length rs)
     → ((i : ℕ) → i < length rs → f (get_or rs i d) ≡ record_part r.width b i)
     → file_of f mark r.version rs ≡ b
 

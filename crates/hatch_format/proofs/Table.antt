@@ -8,23 +8,23 @@ use lib.Dec.{eqb, lit≤}
 use borrow.Author.Tests.{eqb-true}
 use Rattle.hatch_format.specs.Format.{rows, layout_of}
 use Rattle.hatch_format.specs.declared.header.Row.{Row}
-use Rattle.hatch_format.specs.declared.header.Layout.TheVariants.{Known}
+use Rattle.std.specs.Prelude.{Some}
 
 unfoldable pub Each : (Row → Type 0) → List Row → Type 0
 Each P [] = Unit
 Each P (r ∷ rs) = P r × Each P rs
 
-pub found : (P : Row → Type 0) (table : List Row) (v : ℕ) (r : Row) → Each P table → layout_of table v ≡ Known r → P r × (r.version ≡ v)
+pub found : (P : Row → Type 0) (table : List Row) (v : ℕ) (r : Row) → Each P table → layout_of table v ≡ Some r → P r × (r.version ≡ v)
 unfolding Each layout_of
 found P [] v r h e = absurd (let z : ◌≡◌ {A = ℕ} 0 1 = cc in omega arith)
 found P (s ∷ table) v r h e = go (eqb s.version v) refl e (found P table v r h.1)
   where
-    go : (t : Bool) → eqb s.version v ≡ t → cond t (Known s) (layout_of table v) ≡ Known r → (layout_of table v ≡ Known r → P r × (r.version ≡ v))
+    go : (t : Bool) → eqb s.version v ≡ t → cond t (Some s) (layout_of table v) ≡ Some r → (layout_of table v ≡ Some r → P r × (r.version ≡ v))
         → P r × (r.version ≡ v)
     go true t e later = let is : s ≡ r = cc in (subst P is h.0, subst (λ (q : Row). q.version ≡ v) is (eqb-true s.version v t))
     go false t e later = later e
 
-pub found_version : (table : List Row) (v : ℕ) (r : Row) → layout_of table v ≡ Known r → r.version ≡ v
+pub found_version : (table : List Row) (v : ℕ) (r : Row) → layout_of table v ≡ Some r → r.version ≡ v
 unfolding Each
 found_version table v r e = (found (λ (_ : Row). Unit) table v r (each_row table) e).1
   where

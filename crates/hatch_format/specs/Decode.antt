@@ -1,5 +1,5 @@
 -- What a file says: the floats of its records, eight each and of any bits. Definitions only.
-use Rattle.std.specs.Prelude.{◌≡◌, cond, List, ℕ, ◌+◌, ◌*◌, ◌/◌, ◌%◌, ◌≤◌, ltb, length, replicate, Float}
+use Rattle.std.specs.Prelude.{◌≡◌, cond, List, ℕ, ◌+◌, ◌*◌, ◌/◌, ◌%◌, ◌≤◌, ltb, length, replicate, Option, None, Some, Float, Result, Ok, Err}
 use Rattle.std.specs.Float.{binary32}
 use Rattle.std.specs.Float.Ieee.{of_bits}
 use Rattle.lists.specs.Places.{upto}
@@ -7,7 +7,9 @@ use Rattle.hatch_format.specs.Bytes.{word_from}
 use Rattle.hatch_format.specs.Format.{record_place, head_of}
 use Rattle.hatch_format.specs.declared.header.Row.{Row}
 use Rattle.hatch_format.specs.declared.header.Head.{Head}
-use Rattle.hatch_format.specs.declared.header.Head.TheVariants.{Refused, Accepted}
+use Rattle.types.specs.declared.refusal.Refusal.{Refusal}
+use Rattle.types.specs.declared.refusal.RefusalAt.{RefusalAt}
+use Rattle.types.specs.Refusal.{refusal_at}
 
 -- "In memory records are a list of floats, eight each; an incomplete last one does not count": of floats, or of their bits
 abbrev pub record_count_of : {A : Type 0} → List A → ℕ
@@ -28,19 +30,34 @@ itself p = p
 abbrev pub float_of : ℕ → Float
 float_of p = of_bits binary32 p
 
--- what a file says: the number of a refusal and its byte, or version, count and the floats' bits
-pub data Answer : Type 0 where
-  refused : ℕ → ℕ → Answer
-  accepted : ℕ → ℕ → List ℕ → Answer
+-- what a file has: version, count and the floats' bits
+pub record Contents : Type 0 where
+  pub version : ℕ
+  pub count : ℕ
+  pub patterns : List ℕ
 
-unfoldable pub body_of : Head → List ℕ → Answer
-body_of (Refused number place) b = refused number place
-body_of (Accepted r n) b = accepted r.version n (patterns_of r.width b n)
+-- what a file says: its contents, or a refusal with its byte
+abbrev pub Answer : Type 0
+Answer = Result Contents RefusalAt
+
+abbrev pub refused : Refusal → ℕ → Answer
+refused refusal place = Err (refusal_at refusal place)
+
+abbrev pub accepted : ℕ → ℕ → List ℕ → Answer
+accepted version count patterns = Ok (record { version = version; count = count; patterns = patterns })
+
+unfoldable pub body_of : Result Head RefusalAt → List ℕ → Answer
+body_of (Err at) b = Err at
+body_of (Ok h) b = accepted h.row.version h.count (patterns_of h.row.width b h.count)
 
 unfoldable pub decode : List ℕ → List Row → List ℕ → Answer
 decode mark table b = body_of (head_of mark table b) b
 
--- the bits of the eight floats of the record at a byte: zeros where the bytes end before it does
+-- the bits of the eight floats of the record at a byte, if the bytes do not end before it does
+unfoldable pub record_words_of : List ℕ → ℕ → Option (List ℕ)
+record_words_of b at = cond (ltb (length b) (at + 32)) None (Some (upto (word_from b at) 8))
+
+-- the same: zeros where the bytes end before it does
 unfoldable pub record_bits_of : List ℕ → ℕ → List ℕ
 record_bits_of b at = cond (ltb (length b) (at + 32)) (replicate 8 0) (upto (word_from b at) 8)
 

@@ -2,7 +2,8 @@
 ghost use Rattle.std.specs.Prelude.{◌≡◌, ◌<◌};
 ghost use Rattle.hatch_format.specs.Format.{version_one_of, rows, layout_of, wrong_length_of, sized_of, head_of};
 
-use crate::bytes::{half, starts_with};
+use crate::bytes::half;
+use types::{Refusal, RefusalAt};
 
 pub const HSL: [u8; 3] = [b'H', b'S', b'L'];
 
@@ -15,25 +16,18 @@ pub const COUNT_AT: usize = 5;
 pub const RECORDS_AT: usize = 7;
 
 // A version, the bytes of one of its records, and the most records.
-#[derive(Clone, Copy)]
+#[derive(Clone, Copy, Debug, PartialEq, Eq)]
 pub struct Row {
     pub version: usize,
     pub width: usize,
     pub limit: usize,
 }
 
-// The row of a version, where the table has one.
-#[derive(Clone, Copy)]
-pub enum Layout {
-    Unknown,
-    Known(Row),
-}
-
-// The number of a refusal and the byte that it tells, or the row of the file's version and the count.
-#[derive(Clone, Copy)]
-pub enum Head {
-    Refused { number: u32, place: usize },
-    Accepted { row: Row, count: usize },
+// The row of the file's version, and how many records it has.
+#[derive(Clone, Copy, Debug, PartialEq, Eq)]
+pub struct Head {
+    pub row: Row,
+    pub count: usize,
 }
 
 // Version 1, which is the one that is written.
@@ -48,68 +42,51 @@ pub fn version_one() -> Row
 }
 
 #[tactic(auto, unfolding(crate::specs::Format::layout_of))]
-fn layout_of(version: usize) -> Layout
+fn layout_of(version: usize) -> Option<Row>
     ensures { result ≡ layout_of rows version }
 {
     if version == 1 {
-        Layout::Known(version_one())
+        Some(version_one())
     } else {
-        Layout::Unknown
+        None
     }
 }
 
 // A length that is not the expected one: the byte is where the shorter of the two ends.
-#[tactic(auto, unfolding(crate::specs::Format::wrong_length_of))]
-fn wrong_length(size: usize, expected: usize) -> Head
+fn wrong_length(size: usize, expected: usize) -> RefusalAt
     ensures { result ≡ wrong_length_of size expected }
 {
-    let place = if size < expected { size } else { expected };
-    Head::Refused {
-        number: types::refusal::LENGTH,
-        place,
-    }
+    Refusal::Length.at(size.min(expected))
 }
 
 // Tests the count, then the length.
 #[tactic(auto, unfolding(crate::specs::Format::sized_of))]
-fn sized(row: Row, size: usize, count: usize) -> Head
+fn sized(row: Row, size: usize, count: usize) -> Result<Head, RefusalAt>
     requires { (row.width < 65536) × (count < 65536) }
     ensures { result ≡ sized_of row size count }
 {
     if row.limit < count {
-        return Head::Refused {
-            number: types::refusal::COUNT,
-            place: COUNT_AT,
-        };
+        return Err(Refusal::Count.at(COUNT_AT));
     }
     let expected = RECORDS_AT + row.width * count;
-    if size == expected {
-        Head::Accepted { row, count }
-    } else {
-        wrong_length(size, expected)
+    if size != expected {
+        return Err(wrong_length(size, expected));
     }
+    Ok(Head { row, count })
 }
 
 // What the header says of a file with this mark, or the first refusal.
-pub fn head_of(mark: &[u8], bytes: &[u8]) -> Head
+pub fn head_of(mark: &[u8], bytes: &[u8]) -> Result<Head, RefusalAt>
     ensures { result ≡ head_of mark.now rows bytes.now }
 {
-    if !starts_with(bytes, mark) {
-        return Head::Refused {
-            number: types::refusal::MARK,
-            place: MARK_AT,
-        };
+    if !bytes.starts_with(mark) {
+        return Err(Refusal::Mark.at(MARK_AT));
     }
     if bytes.len() < RECORDS_AT {
-        return wrong_length(bytes.len(), RECORDS_AT);
+        return Err(wrong_length(bytes.len(), RECORDS_AT));
     }
     let version = half(bytes, VERSION_AT);
     let count = half(bytes, COUNT_AT);
-    match layout_of(version) {
-        Layout::Unknown => Head::Refused {
-            number: types::refusal::VERSION,
-            place: VERSION_AT,
-        },
-        Layout::Known(row) => sized(row, bytes.len(), count),
-    }
+    let row = layout_of(version).ok_or(Refusal::Version.at(VERSION_AT))?;
+    sized(row, bytes.len(), count)
 }

@@ -1,4 +1,4 @@
-pub mod Room
+pub mod Floats
 pub mod Loading
 pub mod Reading
 pub mod Figures

@@ -1,55 +1,39 @@
 -- What a reader does, by what it found the header to be.
-use mathlib.Core.Path.{◌≡◌, refl, sym, ap, ◌∙◌, subst}
+use mathlib.Core.Path.{◌≡◌, refl, sym, ap, subst}
 use mathlib.Core.Bool.{Bool, true, false, cond}
-use mathlib.Core.List.{List, map}
+use mathlib.Core.List.{List}
 use Prim.Native.Nat.{ℕ, ◌*◌, ◌≤◌}
 use native.Mathlib.Omega.{arith}
 use lib.Dec.{ltb}
 use borrow.Author.Tests.{le-ltb, ltb-false}
-use Rattle.lists.specs.Lent.{written}
-use Rattle.hatch_format.specs.Format.{hsl, rows, expected_length, head_of}
-use Rattle.hatch_format.specs.Decode.{patterns_of, accepted, body_of, decode, Holds}
+use Rattle.hatch_format.specs.Format.{rows, expected_length, head_of}
+use Rattle.hatch_format.specs.Decode.{Contents, patterns_of, accepted, body_of, decode, Holds}
 use Rattle.hatch_format.proofs.Records.{held}
 use Rattle.hatch_format.specs.declared.header.Row.{Row}
 use Rattle.hatch_format.specs.declared.header.Head.{Head}
-use Rattle.hatch_format.specs.declared.header.Head.TheVariants as head
-use Rattle.hatch_read.specs.Read.{with_room, decode_into, read_of, read_leaves}
-use Rattle.hatch_read.specs.declared.Read.TheVariants.{Refused, Accepted}
+use Rattle.std.specs.Prelude.{Result, Ok, Err}
+use Rattle.types.specs.declared.refusal.Refusal.TheVariants.{Room}
+use Rattle.types.specs.declared.refusal.RefusalAt.{RefusalAt}
+use Rattle.types.specs.Refusal.{refusal_at}
+use Rattle.hatch_read.specs.Read.{with_room, decode_into}
 
 -- a header that is accepted with the list is accepted, and the list has room
-accepted_within : (room : ℕ) (h : Head) {r : Row} {n : ℕ} → with_room room h ≡ head.Accepted r n → (h ≡ head.Accepted r n) × (8 * n ≤ room)
+accepted_within : (room : ℕ) (r : Result Head RefusalAt) {h : Head} → with_room room r ≡ Ok h → (r ≡ Ok h) × (8 * h.count ≤ room)
 unfolding with_room
-accepted_within room (head.Refused k place) e = absurd (let z : ◌≡◌ {A = ℕ} 0 1 = cc in omega arith)
-accepted_within room (head.Accepted r n) e = go (ltb room (8 * n)) refl e
+accepted_within room (Err at) e = absurd (let z : ◌≡◌ {A = ℕ} 0 1 = cc in omega arith)
+accepted_within room (Ok q) e = go (ltb room (8 * q.count)) refl e
   where
-    go : {r' : Row} {n' : ℕ} (t : Bool) → ltb room (8 * n) ≡ t
-        → cond t (head.Refused 1 (expected_length r n)) (head.Accepted r n) ≡ head.Accepted r' n'
-        → (head.Accepted r n ≡ head.Accepted r' n') × (8 * n' ≤ room)
+    go : {h : Head} (t : Bool) → ltb room (8 * q.count) ≡ t
+        → cond t (Err (refusal_at Room (expected_length q.row q.count))) (Ok q) ≡ Ok h
+        → ◌≡◌ {A = Result Head RefusalAt} (Ok q) (Ok h) × (8 * h.count ≤ room)
     go true t e = absurd (let z : ◌≡◌ {A = ℕ} 0 1 = cc in omega arith)
-    go {n' = n'} false t e = let m : n ≡ n' = cc in (e, subst (λ (k : ℕ). 8 * k ≤ room) m (ltb-false room (8 * n) t))
+    go {h} false t e = let same : q ≡ h = cc in (e, subst (λ (x : Head). 8 * x.count ≤ room) same (ltb-false room (8 * q.count) t))
 
--- h is the answer of the call that gives the header, and a match has found what h is
-module _ (b : List ℕ) (room : ℕ) {h : Head} (is : h ≡ with_room room (head_of hsl rows b)) where
-  -- an accepted file is whole, and the list has room for it
-  pub whole : {r : Row} {n : ℕ} → h ≡ head.Accepted r n → Holds r.width n b × (8 * n ≤ room)
-  whole {r} {n} e =
-      let x = accepted_within room (head_of hsl rows b) (sym is ∙ e) in
-      (held hsl b r n x.0, x.1)
-
-  module _ {A : Type 0} (f : ℕ → A) (l : List A) where
-    pub refuses : {k place : ℕ} → h ≡ head.Refused k place
-        → (Refused k place ≡ read_of (decode_into hsl rows room b)) × (l ≡ read_leaves f (decode_into hsl rows room b) l)
-    unfolding decode_into body_of read_of read_leaves
-    refuses e =
-        let x = sym e ∙ is in
-        (ap (λ (h : Head). read_of (body_of h b)) x, ap (λ (h : Head). read_leaves f (body_of h b) l) x)
-
-    pub accepts : {r : Row} {n : ℕ} → h ≡ head.Accepted r n
-        → (Accepted r.version n ≡ read_of (decode_into hsl rows room b)) × (written (map f (patterns_of r.width b n)) l ≡ read_leaves f (decode_into hsl rows room b) l)
-    unfolding decode_into body_of read_of read_leaves
-    accepts {r} {n} e =
-        let x = sym e ∙ is in
-        (ap (λ (h : Head). read_of (body_of h b)) x, ap (λ (h : Head). read_leaves f (body_of h b) l) x)
+-- what the call has found that gives the header: an accepted file is whole, and the list has room for it
+pub whole : (mark b : List ℕ) (room : ℕ) {h : Head} → Ok h ≡ with_room room (head_of mark rows b) → Holds h.row.width h.count b × (8 * h.count ≤ room)
+whole mark b room {h} is =
+    let x = accepted_within room (head_of mark rows b) (sym is) in
+    (held mark b h.row h.count x.0, x.1)
 
 -- ---- a list with room decides nothing
 
@@ -58,19 +42,22 @@ module _ (mark : List ℕ) (table : List Row) (b : List ℕ) (room v n : ℕ) (p
   unfolding decode_into decode body_of with_room
   into_plain e = go (head_of mark table b) e
     where
-      by_room : (r : Row) (m : ℕ) (t : Bool) → body_of (cond t (head.Refused 1 (expected_length r m)) (head.Accepted r m)) b ≡ accepted v n ps
-          → body_of (head.Accepted r m) b ≡ accepted v n ps
-      by_room r m true e = absurd (let z : ◌≡◌ {A = ℕ} 0 1 = cc in omega arith)
-      by_room r m false e = e
+      by_room : (h : Head) (t : Bool) → body_of (cond t (Err (refusal_at Room (expected_length h.row h.count))) (Ok h)) b ≡ accepted v n ps
+          → body_of (Ok h) b ≡ accepted v n ps
+      by_room h true e = absurd (let z : ◌≡◌ {A = ℕ} 0 1 = cc in omega arith)
+      by_room h false e = e
 
-      go : (h : Head) → body_of (with_room room h) b ≡ accepted v n ps → body_of h b ≡ accepted v n ps
-      go (head.Refused k place) e = e
-      go (head.Accepted r m) e = by_room r m (ltb room (8 * m)) e
+      go : (r : Result Head RefusalAt) → body_of (with_room room r) b ≡ accepted v n ps → body_of r b ≡ accepted v n ps
+      go (Err at) e = e
+      go (Ok h) e = by_room h (ltb room (8 * h.count)) e
 
   pub plain_into : decode mark table b ≡ accepted v n ps → 8 * n ≤ room → decode_into mark table room b ≡ accepted v n ps
   unfolding decode_into decode body_of with_room
   plain_into e fits = go (head_of mark table b) e
     where
-      go : (h : Head) → body_of h b ≡ accepted v n ps → body_of (with_room room h) b ≡ accepted v n ps
-      go (head.Refused k place) e = e
-      go (head.Accepted r m) e = let same : m ≡ n = cc in rw (le-ltb room (8 * m) (omega (arith, same, fits))) e
+      go : (r : Result Head RefusalAt) → body_of r b ≡ accepted v n ps → body_of (with_room room r) b ≡ accepted v n ps
+      go (Err at) e = e
+      go (Ok h) e =
+          let c : ◌≡◌ {A = Contents} (record { version = h.row.version; count = h.count; patterns = patterns_of h.row.width b h.count }) (record { version = v; count = n; patterns = ps }) = cc in
+          let same : h.count ≡ n = ap (λ (x : Contents). x.count) c in
+          rw (le-ltb room (8 * h.count) (omega (arith, same, fits))) e

@@ -1,8 +1,7 @@
 -- Document 02's two sentences on what is saved, of a call: `answer` is what it answered, l the list before it and l' the list after it. The
 -- reader has a list of any room. Definitions only.
-use Rattle.std.specs.Prelude.{◌≡◌, List, map, ℕ, ◌*◌, ◌≤◌, length, take}
-use Rattle.types.specs.declared.answer.Listed.{Listed}
-use Rattle.types.specs.declared.answer.Listed.TheVariants.{Count}
+use Rattle.std.specs.Prelude.{◌≡◌, List, map, ℕ, ◌*◌, ◌≤◌, length, take, Result, Ok}
+use Rattle.types.specs.declared.refusal.Refusal.{Refusal}
 use Rattle.lists.specs.Lent.{written}
 use Rattle.hatch_format.specs.Format.{hsl, rows}
 use Rattle.hatch_format.specs.Decode.{record_count_of, Answer, accepted}
@@ -17,13 +16,13 @@ pub record Says {A : Type 0} (f : ℕ → A) (records : List A) (said : Answer) 
   pub same : map f bits ≡ whole_records records
 
 -- "for every record list of at most 2,000, the written bytes read as those records"
-abbrev pub ReadBack : {A : Type 0} → (ℕ → A) → List A → Listed → List ℕ → Type 0
+abbrev pub ReadBack : {A : Type 0} → (ℕ → A) → List A → Result ℕ Refusal → List ℕ → Type 0
 ReadBack f records answer l' =
-    (m room : ℕ) → answer ≡ Count m → 8 * record_count_of records ≤ room → Says f records (decode_into hsl rows room (take m l'))
+    (m room : ℕ) → answer ≡ Ok m → 8 * record_count_of records ≤ room → Says f records (decode_into hsl rows room (take m l'))
 
 -- "For every file that the reader accepts, writing its records gives the same bytes, NaN bits included": b is the file, ps are the bits of
 -- its floats
-abbrev pub Rewritten : List ℕ → Listed → List ℕ → List ℕ → Type 0
+abbrev pub Rewritten : List ℕ → Result ℕ Refusal → List ℕ → List ℕ → Type 0
 Rewritten ps answer l l' =
     (b : List ℕ) → Below 256 b → (room v n : ℕ) → decode_into hsl rows room b ≡ accepted v n ps → length b ≤ length l
-    → (answer ≡ Count (length b)) × (l' ≡ written b l)
+    → (answer ≡ Ok (length b)) × (l' ≡ written b l)

@@ -25,7 +25,3 @@ get_d_mapped f d e (x ∷ l) (suc i) h = get_d_mapped f d e l i (omega arith)
 -- a list whose entries are e 0, e 1, .. is that list
 pub listed : {A : Type 0} (d : A) (e : ℕ → A) (s : List A) → ((j : ℕ) → j < length s → get_or s j d ≡ e j) → s ≡ upto e (length s)
 listed d e s h = ext_get_or d s (upto e (length s)) (sym (length_upto e (length s))) λ j g. h j g ∙ sym (get_d_upto e d (length s) j g)
-
-pub map_same : {A : Type 0} (s : List A) → map (λ (x : A). x) s ≡ s
-map_same [] = refl
-map_same (x ∷ s) = ap (λ (r : List _). x ∷ r) (map_same s)

@@ -1,45 +1,41 @@
-// The corners of a turned box.
+// The corners of boxes of the plane, turned and upright.
 #![tactic(auto)]
 
+mod frame;
+
 ghost use Rattle.std.specs.Prelude.{◌≡◌};
-ghost use Rattle.obb2_corners.specs.Corners.{corner_points_of};
+ghost use Rattle.obb2_corners.specs.Corners.{corners_of, upright_corners_of};
 
-use types::{Obb2, Vec2};
+pub use frame::Frame;
+use types::{Aabb2, Obb2, Vec2};
 
-// Four corners, each joined to the next by an edge, and the last to the first.
-#[repr(C)]
-#[derive(Clone, Copy)]
-pub struct Corners {
-    // c + u + v.
-    pub p0: Vec2,
-    // c - u + v.
-    pub p1: Vec2,
-    // c - u - v.
-    pub p2: Vec2,
-    // c + u - v.
-    pub p3: Vec2,
+// Centre + u + v, centre - u + v, centre - u - v, centre + u - v: each joined to the next by an edge, and the last to the first.
+pub fn corner_points(o: Obb2) -> [Vec2; 4]
+    ensures { result ≡ corners_of o }
+{
+    let Frame { c, u, v } = Frame::from(o);
+    [c + u + v, c - u + v, c - u - v, c + u - v]
 }
 
-// Centre + u + v, centre - u + v, centre - u - v, centre + u - v.
-pub fn corner_points(o: Obb2) -> Corners
-    ensures { result ≡ corner_points_of o }
+pub fn upright_corners(b: Aabb2) -> [Vec2; 4]
+    ensures { result ≡ upright_corners_of b }
 {
-    Corners {
-        p0: Vec2 {
-            x: o.cx + o.ux + o.vx,
-            y: o.cy + o.uy + o.vy,
+    [
+        Vec2 {
+            x: b.min_x,
+            y: b.min_y,
         },
-        p1: Vec2 {
-            x: o.cx - o.ux + o.vx,
-            y: o.cy - o.uy + o.vy,
+        Vec2 {
+            x: b.max_x,
+            y: b.min_y,
         },
-        p2: Vec2 {
-            x: o.cx - o.ux - o.vx,
-            y: o.cy - o.uy - o.vy,
+        Vec2 {
+            x: b.min_x,
+            y: b.max_y,
         },
-        p3: Vec2 {
-            x: o.cx + o.ux - o.vx,
-            y: o.cy + o.uy - o.vy,
+        Vec2 {
+            x: b.max_x,
+            y: b.max_y,
         },
-    }
+    ]
 }

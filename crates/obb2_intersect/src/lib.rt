@@ -1,7 +1,43 @@
-// Whether a turned box meets another box, by separating axes.
+// Whether a turned box meets another box of the plane: no exactly if some axis separates their corners.
 #![tactic(auto)]
 
-mod intersect;
-mod search;
+ghost use Rattle.std.specs.Prelude.{◌≡◌};
+ghost use Rattle.obb2_intersect.specs.Intersect.{across_of};
+ghost use Rattle.obb2_intersect.specs.Promise.{IsIntersectAabb2Promise, IsIntersectObb2Promise};
 
-pub use intersect::{is_intersect_aabb2, is_intersect_obb2};
+use axes::first_separating;
+use obb2_corners::{corner_points, upright_corners};
+use types::{Aabb2, Obb2, Vec2};
+
+// The axis at a right angle to the edge (x, y).
+fn across(x: f32, y: f32) -> Vec2
+    ensures { result ≡ across_of x y }
+{
+    Vec2 { x: -y, y: x }
+}
+
+// Whether a turned and an upright box meet. Ranges whose computed ends are equal overlap.
+pub fn is_intersect_aabb2(o: Obb2, b: Aabb2) -> bool
+    ensures { IsIntersectAabb2Promise o b result }
+{
+    let axes = [
+        Vec2 { x: 1.0, y: 0.0 },
+        Vec2 { x: 0.0, y: 1.0 },
+        across(o.ux, o.uy),
+        across(o.vx, o.vy),
+    ];
+    first_separating(&corner_points(o), &upright_corners(b), &axes).is_none()
+}
+
+// Whether two turned boxes meet, whichever comes first.
+pub fn is_intersect_obb2(a: Obb2, b: Obb2) -> bool
+    ensures { IsIntersectObb2Promise a b result }
+{
+    let axes = [
+        across(a.ux, a.uy),
+        across(a.vx, a.vy),
+        across(b.ux, b.uy),
+        across(b.vx, b.vy),
+    ];
+    first_separating(&corner_points(a), &corner_points(b), &axes).is_none()
+}

@@ -5,16 +5,16 @@ ghost use Rattle.std.specs.Prelude.{◌≡◌};
 ghost use Rattle.std.specs.Float.Ieee.{is_nan};
 ghost use Rattle.obb2_point.specs.Point.{beyond_of, is_include_point2_of, on_edge_of, distance_of, nearer_of, chosen_of, nearest_point2_of};
 
-use obb2_corners::corner_points;
-use types::{Nearest, Obb2, Vec2};
+use obb2_corners::{Frame, corner_points};
+use types::{Obb2, Refusal, Vec2, Vector};
 
 // Whether d, seen along the half edge v, lies past either end of the whole edge. A NaN lies past neither.
 #[tactic(auto, unfolding(crate::specs::Point::beyond_of))]
 fn beyond(d: Vec2, v: Vec2) -> bool
     ensures { result ≡ beyond_of d v }
 {
-    let vd = vec2::dot(d, v);
-    let vv = vec2::dot(v, v);
+    let vd = d.dot(v);
+    let vv = v.dot(v);
     if vd < -vv {
         return true;
     }
@@ -26,15 +26,13 @@ fn beyond(d: Vec2, v: Vec2) -> bool
 pub fn is_include_point2(o: Obb2, p: Vec2) -> bool
     ensures { result ≡ is_include_point2_of o p }
 {
-    let d = vec2::sub(p, Vec2 { x: o.cx, y: o.cy });
-    if beyond(d, Vec2 { x: o.ux, y: o.uy }) {
-        return false;
-    }
-    !beyond(d, Vec2 { x: o.vx, y: o.vy })
+    let Frame { c, u, v } = Frame::from(o);
+    let d = p - c;
+    !(beyond(d, u) || beyond(d, v))
 }
 
 // A point of the box's outline, and the square of its distance from the point asked about.
-#[derive(Clone, Copy)]
+#[derive(Clone, Copy, Debug, PartialEq)]
 struct Candidate {
     point: Vec2,
     square: f32,
@@ -74,30 +72,24 @@ fn nearer(a: Candidate, b: Candidate) -> Candidate
 
 // The nearest of four, refused where a distance is NaN.
 #[tactic(auto, unfolding(crate::specs::Point::chosen_of))]
-fn chosen(a: Candidate, b: Candidate, c: Candidate, d: Candidate) -> Nearest
+fn chosen(a: Candidate, b: Candidate, c: Candidate, d: Candidate) -> Result<Vec2, Refusal>
     ensures { result ≡ chosen_of a b c d }
 {
     if nan_distance(a) | nan_distance(b) | nan_distance(c) | nan_distance(d) {
-        return Nearest::Refused(types::refusal::NAN_LENGTH);
+        return Err(Refusal::NanLength);
     }
-    let near = nearer(nearer(nearer(a, b), c), d);
-    let point = near.point;
-    Nearest::Some(point)
+    Ok(nearer(nearer(nearer(a, b), c), d).point)
 }
 
 // The point itself where the box includes it, and else the nearest point of the four edges. Refused where one of their distances is NaN.
 #[tactic(auto, unfolding(crate::specs::Point::nearest_point2_of))]
-pub fn nearest_point2(o: Obb2, p: Vec2) -> Nearest
+pub fn nearest_point2(o: Obb2, p: Vec2) -> Result<Vec2, Refusal>
     ensures { result ≡ nearest_point2_of o p }
 {
     if is_include_point2(o, p) {
-        return Nearest::Some(p);
+        return Ok(p);
     }
-    let corners = corner_points(o);
-    let a = corners.p0;
-    let b = corners.p1;
-    let c = corners.p2;
-    let d = corners.p3;
+    let [a, b, c, d] = corner_points(o);
     chosen(
         on_edge(a, b, p),
         on_edge(b, c, p),

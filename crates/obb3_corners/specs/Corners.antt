@@ -2,13 +2,12 @@
 use Rattle.std.specs.Prelude.{List, [], ◌∷◌}
 use Rattle.types.specs.declared.shape.Obb3.{Obb3}
 use Rattle.types.specs.declared.shape.Vec3.{Vec3}
-use Rattle.vec3.specs.Values.{vec3, add_of, sub_of}
-use Rattle.obb3_corners.specs.declared.Frame.{Frame}
-use Rattle.obb3_corners.specs.declared.Corners3.{Corners3}
+use Rattle.types.specs.Vec3.{vec3, add_of, sub_of}
+use Rattle.obb3_corners.specs.declared.frame.Frame.{Frame}
 
 -- the centre and the half edges
-abbrev pub parts_of : Obb3 → Frame
-parts_of o =
+abbrev pub frame_of : Obb3 → Frame
+frame_of o =
     record {
       c = vec3 o.cx o.cy o.cz;
       u = vec3 o.ux o.uy o.uz;
@@ -17,23 +16,19 @@ parts_of o =
     }
 
 -- centre - u - v, + u - v, + u + v, - u + v: each - w, and then each + w
-abbrev pub corner_points_of : Obb3 → Corners3
-corner_points_of o =
-    let q = parts_of o in
+abbrev pub corners_of : Obb3 → List Vec3
+corners_of o =
+    let q = frame_of o in
     let m0 = sub_of (sub_of q.c q.u) q.v in
     let m1 = sub_of (add_of q.c q.u) q.v in
     let m2 = add_of (add_of q.c q.u) q.v in
     let m3 = add_of (sub_of q.c q.u) q.v in
-    record {
-      p0 = sub_of m0 q.w;
-      p1 = sub_of m1 q.w;
-      p2 = sub_of m2 q.w;
-      p3 = sub_of m3 q.w;
-      p4 = add_of m0 q.w;
-      p5 = add_of m1 q.w;
-      p6 = add_of m2 q.w;
-      p7 = add_of m3 q.w;
-    }
-
-abbrev pub corners_of : Obb3 → List Vec3
-corners_of o = let c = corner_points_of o in c.p0 ∷ c.p1 ∷ c.p2 ∷ c.p3 ∷ c.p4 ∷ c.p5 ∷ c.p6 ∷ c.p7 ∷ []
+    sub_of m0 q.w
+    ∷ sub_of m1 q.w
+    ∷ sub_of m2 q.w
+    ∷ sub_of m3 q.w
+    ∷ add_of m0 q.w
+    ∷ add_of m1 q.w
+    ∷ add_of m2 q.w
+    ∷ add_of m3 q.w
+    ∷ []

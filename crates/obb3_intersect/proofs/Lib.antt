@@ -1,2 +1,3 @@
+pub mod Nowhere
+pub mod Parts
 pub mod Promised
-pub mod Turns

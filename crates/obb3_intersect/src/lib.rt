@@ -3,42 +3,27 @@
 
 ghost use Rattle.std.specs.Prelude.{◌≡◌, map};
 ghost use Rattle.vec3.specs.Values.{cross_of};
-ghost use Rattle.obb3_corners.specs.Corners.{corners_of};
-ghost use Rattle.obb3_intersect.specs.Intersect.{units_of};
+ghost use Rattle.obb3_intersect.specs.Intersect.{unit_of, units_of};
 ghost use Rattle.obb3_intersect.specs.Promise.{IsIntersectToObb3Promise};
 
-use obb3_corners::{corner_points, parts};
-use obb3_search::{is_yes, verdict};
-use types::{Obb3, Vec3, Verdict};
-use vec3::{cross, norm, scale};
+use axes::verdict;
+use obb3_corners::{Frame, corner_points};
+use types::{Obb3, Refusal, Vec3};
+use vec3::{cross, norm};
 
-// The corners as the search takes them.
-fn corners(o: Obb3) -> [Vec3; 8]
-    ensures { result ≡ corners_of o }
+// The edge at length one.
+fn unit(e: Vec3) -> Vec3
+    ensures { result ≡ unit_of e }
 {
-    let c = corner_points(o);
-    let p0 = c.p0;
-    let p1 = c.p1;
-    let p2 = c.p2;
-    let p3 = c.p3;
-    let p4 = c.p4;
-    let p5 = c.p5;
-    let p6 = c.p6;
-    let p7 = c.p7;
-    [p0, p1, p2, p3, p4, p5, p6, p7]
+    e * (1.0 / norm(e))
 }
 
-// The edges at length one.
 #[tactic(auto, unfolding(crate::specs::Intersect::units_of))]
 fn units(o: Obb3) -> [Vec3; 3]
     ensures { result ≡ units_of o }
 {
-    let q = parts(o);
-    [
-        scale(q.u, 1.0 / norm(q.u)),
-        scale(q.v, 1.0 / norm(q.v)),
-        scale(q.w, 1.0 / norm(q.w)),
-    ]
+    let q = Frame::from(o);
+    [unit(q.u), unit(q.v), unit(q.w)]
 }
 
 // The cross products of an edge of one box with the edges of the other.
@@ -49,31 +34,25 @@ fn crosses(u: Vec3, vs: [Vec3; 3]) -> [Vec3; 3]
 }
 
 // Whether two turned boxes meet; refused where a projection is NaN on an axis that is reached. Ranges whose computed ends are equal overlap.
-// The axes come three at a time, so that those of b and the cross products are worked out only where the search gets to them.
-pub fn is_intersect_to_obb3(a: Obb3, b: Obb3) -> Verdict
+// The edges of b and the cross products are worked out only where the search gets to them.
+#[tactic(auto, using(crate::proofs::Parts::crosses_decide, crate::proofs::Parts::edge_ends, crate::proofs::Parts::later_decide, crate::proofs::Parts::none_left))]
+pub fn is_intersect_to_obb3(a: Obb3, b: Obb3) -> Result<bool, Refusal>
     ensures { IsIntersectToObb3Promise a b result }
 {
-    let ps = corners(a);
-    let qs = corners(b);
+    let ps = corner_points(a);
+    let qs = corner_points(b);
     let us = units(a);
-    // Those of b from the second turn on.
-    let mut vs = us;
-    let mut axes = us;
-    let mut turn = 0;
-    'turns: loop {
-        let v = verdict(ps, qs, axes);
-        if !is_yes(v) {
-            break v;
-        }
-        if turn == 4 {
-            break v;
-        }
-        if turn == 0 {
-            vs = units(b);
-            axes = vs;
-        } else {
-            axes = crosses(us[turn - 1], vs);
-        }
-        turn += 1;
+    if !verdict(&ps, &qs, &us)? {
+        return Ok(false);
     }
+    let vs = units(b);
+    if !verdict(&ps, &qs, &vs)? {
+        return Ok(false);
+    }
+    for u in us {
+        if !verdict(&ps, &qs, &crosses(u, vs))? {
+            return Ok(false);
+        }
+    }
+    Ok(true)
 }

@@ -1,31 +1,12 @@
--- A coordinate cut to an integer by the test `x < 0.0`.
-use Rattle.std.proofs.Common.{◌≡◌, ◌+◌, ◌*◌, ◌/◌, ◌^◌, ◌<◌, ◌≤◌, true, false, T, pos, refl, zero-le, div-lt_iff_lt-mul, mul-one, arith, lt→ltb, ltb-false, ltb-true}
-use lib.Ieee.{Float, nan, inf, fin, up, down, lt, to_unsigned, of_bits}
-use lib.Ieee.Fits.{down_pos}
+-- How large a coordinate is when it is cut to an integer.
+use Rattle.std.proofs.Common.{◌≡◌, ℕ, pos, ◌*◌, ◌/◌, ◌<◌, ◌≤◌, true, false, zero-le, div-lt_iff_lt-mul, arith}
+use Rattle.types.specs.declared.shape.Vec2.{Vec2}
 use Rattle.float.specs.Rounded.{+0}
+use Rattle.rounded.proofs.Down.{both}
+use Rattle.stroke.specs.Image.{on_side_of, in_sides_of, on_image}
+use lib.Ieee.{Float, binary32, le, lt, of_int, nan, inf, fin, up, down, to_unsigned}
+use lib.Ieee.Fits.{down_pos}
 use Rattle.rounded.specs.Size.{Size}
-
-pub cut_low : (x : Float) → Size 196610 x → lt x +0 ≡ true → to_unsigned 64 x ≡ 0
-unfolding lt to_unsigned of_bits
-cut_low nan h t = refl
-cut_low (inf s) h t = absurd h
-cut_low (fin true m e) h t = refl
-cut_low (fin false m e) h t = absurd (omega (arith, ltb-true (m * up e * 1) (0 * down e) t))
-
--- what the truncating cast asks
-pub cut_above : (x : Float) → Size 196610 x → lt x +0 ≡ false → T (lt (fin true 1 (pos 0)) x)
-unfolding lt of_bits
-cut_above nan h t = absurd h
-cut_above (inf s) h t = absurd h
-cut_above (fin false m e) h t = lt→ltb 0 (1 * down e + m * up e * 1) (omega (arith, down_pos e))
-cut_above (fin true m e) h t = lt→ltb (m * up e * 1) (1 * down e) (omega (arith, down_pos e, ltb-false 0 (m * up e * 1 + 0 * down e) t))
-
-pub cut_below : (x : Float) → Size 196610 x → T (lt x (fin false 1 (pos 64)))
-unfolding lt
-cut_below nan h = absurd h
-cut_below (inf s) h = absurd h
-cut_below (fin false m e) h = lt→ltb (m * up e * 1) (1 * 2 ^ 64 * down e) (omega (arith, down_pos e, mul-one (m * up e)))
-cut_below (fin true m e) h = lt→ltb 0 (m * up e * 1 + 1 * 2 ^ 64 * down e) (omega (arith, down_pos e))
 
 pub cut_le : (x : Float) → Size 196610 x → to_unsigned 64 x ≤ 196610
 unfolding to_unsigned
@@ -34,3 +15,12 @@ cut_le (inf s) h = absurd h
 cut_le (fin true m e) h = zero-le
 cut_le (fin false m e) h =
     let q : m * up e / down e < 196611 = (div-lt_iff_lt-mul (down_pos e)).1 (omega (arith, down_pos e)) in omega arith
+
+-- neither coordinate of a position in the image is below zero
+pub signs : (w h : ℕ) (p : Vec2) → on_image w h p ≡ true → (le +0 p.x ≡ true) × (le +0 p.y ≡ true)
+unfolding in_sides_of on_side_of
+signs w h p t =
+    let wide = of_int binary32 (pos w) in
+    let high = of_int binary32 (pos h) in
+    let b = both (on_side_of wide p.x) (on_side_of high p.y) t in
+    ((both (le +0 p.x) (lt p.x wide) b.0).0, (both (le +0 p.y) (lt p.y high) b.1).0)

@@ -12,7 +12,7 @@ use Rattle.rounded.proofs.Down.{both, Left, on_side}
 use Rattle.stroke.specs.Walk.{exit, position, positions, along_x, along_y}
 use Rattle.stroke.specs.Image.{on_side_of, in_sides_of, on_image, one_if_of}
 use Rattle.pixels.specs.Entries.{number, keep_if, kept, pixels, entries, stroke_of}
-use Rattle.pixels.proofs.Writing.{closed_length}
+use Rattle.pixels.proofs.Lists.{entries_length}
 
 -- what lies on a side is below it when it is cut
 cut_below : (w : ℕ) (x : Float) → Past base x → Left w 0 x → to_unsigned 64 x < w
@@ -65,7 +65,7 @@ module _ (w h : ℕ) (wide : w ≤ 2 ^ 24) (high : h ≤ 2 ^ 24) where
       let b = along_y p q in
       let es = pixels w h (positions a b) in
       let close = keep_if c (number w (position a b (exit a b))) [] in
-      let few : i < length es = omega (arith, closed_length c w h a b (exit a b)) in
+      let few : i < length es = omega (arith, entries_length c w h a b) in
       let more : i < length (es ++ close) = omega arith in
       subst (λ (n : ℕ). n < w * h)
       (sym (get_or-append (es ++ close) (drop (length (es ++ close)) l) 0 i more ∙ get_or-append es close 0 i few))

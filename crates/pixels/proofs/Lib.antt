@@ -1,8 +1,12 @@
 pub mod Lists
 pub mod Casts
-pub mod Counting
-pub mod Writing
+pub mod Entering
+pub mod Moving
+pub mod Limits
+pub mod Running
+pub mod Choosing
 pub mod Sides
 pub mod Inside
 pub mod Answers
 pub mod Promised
+pub mod Whole

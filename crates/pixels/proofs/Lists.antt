@@ -4,9 +4,9 @@ use mathlib.Core.List.{map-append}
 use Rattle.types.specs.declared.shape.Vec2.{Vec2}
 use Rattle.lists.specs.Places.{upto}
 use Rattle.stroke.specs.declared.axis.Axis.{Axis}
-use Rattle.stroke.specs.Walk.{position}
+use Rattle.stroke.specs.Walk.{position, exit, positions}
 use Rattle.stroke.specs.Image.{on_image, one_if_of}
-use Rattle.pixels.specs.Entries.{number, keep_if, kept, pixels}
+use Rattle.pixels.specs.Entries.{number, keep_if, kept, pixels, entries}
 use Rattle.pixels.specs.Post.{entered}
 
 -- ---- one position more
@@ -45,6 +45,10 @@ entered_suc w h a b k =
 
 -- ---- how many there are
 
+pub no_entries : (es : List ℕ) → 0 ≡ length es → es ≡ []
+no_entries [] e = refl
+no_entries (x ∷ es) e = absurd (let z : ⊥ = omega arith in z)
+
 pub one_le : (t : Bool) → one_if_of t ≤ 1
 one_le true = omega arith
 one_le false = omega arith
@@ -70,3 +74,10 @@ entered_le w h a b k (suc d) =
 pub entered_few : (w h : ℕ) (a b : Axis) (k : ℕ) → length (entered w h a b k) ≤ k
 entered_few w h a b zero = omega (arith, ap length (entered_none w h a b))
 entered_few w h a b (suc k) = omega (arith, entered_few w h a b k, entered_more w h a b k, one_le (on_image w h (position a b k)))
+
+-- all of them, with the closing one
+pub entries_length : (c : Bool) (w h : ℕ) (a b : Axis) → length (entries c w h a b) ≡ length (entered w h a b (exit a b)) + one_if_of c
+unfolding entries positions
+entries_length c w h a b =
+    length-append (entered w h a b (exit a b)) (keep_if c (number w (position a b (exit a b))) [])
+    ∙ ap (λ (i : ℕ). length (entered w h a b (exit a b)) + i) (keep_length c (number w (position a b (exit a b))))

@@ -14,8 +14,7 @@ use Rattle.stroke.proofs.Sides.{count_le}
 use Rattle.stroke_bound.specs.Bound.{most_by_sides}
 use Rattle.pixels.specs.Entries.{entries, stroke_of}
 use Rattle.pixels.specs.Post.{entered}
-use Rattle.pixels.proofs.Lists.{entered_none, entered_more}
-use Rattle.pixels.proofs.Writing.{closed_length}
+use Rattle.pixels.proofs.Lists.{entered_none, entered_more, entries_length}
 
 module _ {p q : Vec2} (v : Accepted p q) (w h : ℕ) (wide : w ≤ 16384) (high : h ≤ 16384) where
   abbrev A : Axis
@@ -47,4 +46,4 @@ module _ {p q : Vec2} (v : Accepted p q) (w h : ℕ) (wide : w ≤ 16384) (high 
 
   pub few_by_sides : (c : Bool) → length (stroke_of c w h p q) ≤ most_by_sides c w h
   unfolding stroke_of entries positions
-  few_by_sides c = omega (arith, entered_few (exit A B) (exit_le A B), closed_length c w h A B (exit A B))
+  few_by_sides c = omega (arith, entered_few (exit A B) (exit_le A B), entries_length c w h A B)

@@ -1,60 +1,60 @@
 // The entries of a stroke's walk over an image, with the closing entry and without it.
-ghost use Rattle.std.specs.Prelude.{◌≡◌, true, false};
-ghost use Rattle.stroke_check.specs.Check.{accept_of};
-ghost use Rattle.stroke_check.specs.declared.Acceptance.TheVariants.{Accepted};
+ghost use Rattle.std.specs.Prelude.{◌+◌, ◌≤◌, true, false, length, Ok};
+ghost use Rattle.stroke.specs.Image.{one_if_of};
+ghost use Rattle.stroke.specs.Walk.{exit};
 ghost use Rattle.pixels.specs.Entries.{entries};
 ghost use Rattle.pixels.specs.Promise.{Promise};
-ghost use Rattle.pixels.specs.Post.{Drawn, Listing};
+ghost use Rattle.pixels.specs.Post.{entered, Listing};
 
-use crate::image::cut;
-use crate::measure::{measure, one_if};
-use crate::write::write;
-use stroke::Axis;
-use stroke_check::Acceptance;
-use types::{Listed, Vec2};
+use crate::course::Course;
+use crate::number::pixel;
+use stroke::Accepted;
+use types::{Refusal, RefusalAt, Vec2};
 
-// The entries of the walk, if the list has room for them.
-fn fill(
-    list: &mut [u32],
-    closing: bool,
-    guess: usize,
-    width: usize,
-    height: usize,
-    a: Axis,
-    b: Axis,
-) -> Listed
-    requires { Drawn width height a b }
-    ensures { Listing (entries closing width height a b) list.old result list.new }
-{
-    let m = measure(list.len(), one_if(closing), guess, width, height, a, b);
-    if m.fits {
-        return Listed::Count(write(list, closing, width, height, a, b, m.steps));
+impl Course {
+    // The entries, for which the list has room. Each store is guarded by the list's length besides, whatever the processor's state.
+    fn fill<const CLOSING: bool>(self, list: &mut [u32]) -> usize
+        requires { length (entered self.image.width self.image.height self.walk.x self.walk.y (exit self.walk.x self.walk.y)) + one_if_of CLOSING ≤ length list.old }
+        ensures { Listing (entries CLOSING self.image.width self.image.height self.walk.x self.walk.y) list.old (Ok result) list.new }
+    {
+        if CLOSING {
+            let room = list.len() - 1;
+            let last = self.stretch::<true>(list, room);
+            list[last.count] = pixel(self.image, self.leave(last));
+            return last.count + 1;
+        }
+        let room = list.len();
+        self.stretch::<true>(list, room).count
     }
-    Listed::Refused(types::refusal::ROOM)
 }
 
-// The walk of a stroke that is accepted.
-fn draw(closing: bool, width: usize, height: usize, p0: Vec2, p1: Vec2, list: &mut [u32]) -> Listed
-    requires { accept_of width height p0 p1 ≡ Accepted }
-    ensures { Promise closing width height p0 p1 list.old result list.new }
+// The walk of a stroke that is accepted. A list that is surely long enough needs no count.
+fn draw<const CLOSING: bool>(stroke: Accepted, list: &mut [u32]) -> Result<usize, RefusalAt>
+    ensures { Promise CLOSING stroke.image.width stroke.image.height stroke.p0 stroke.p1 list.old result list.new }
 {
-    let step = stroke::step_of(p0, p1);
-    let a = stroke::axis_of(step, p0.x, p1.x);
-    let b = stroke::axis_of(step, p0.y, p1.y);
-    // Steps of one along the larger difference, one past its end, and the closing entry: the walk rarely makes more.
-    let guess = cut(step) + 1 + one_if(closing);
-    fill(list, closing, guess, width, height, a, b)
+    let course = Course::new(stroke);
+    let more = CLOSING as usize;
+    if more <= list.len() {
+        let room = list.len() - more;
+        if stroke_bound::is_ample(stroke, room) || course.has_room(room) {
+            return Ok(course.fill::<CLOSING>(list));
+        }
+    }
+    Err(Refusal::Room.into())
 }
 
 // The walk of any stroke, with the closing entry or without it.
-fn walk(closing: bool, width: usize, height: usize, p0: Vec2, p1: Vec2, list: &mut [u32]) -> Listed
-    ensures { Promise closing width height p0 p1 list.old result list.new }
+fn walk<const CLOSING: bool>(
+    width: usize,
+    height: usize,
+    p0: Vec2,
+    p1: Vec2,
+    list: &mut [u32],
+) -> Result<usize, RefusalAt>
+    ensures { Promise CLOSING width height p0 p1 list.old result list.new }
 {
-    match stroke_check::accept(width, height, p0, p1) {
-        Acceptance::Accepted => draw(closing, width, height, p0, p1, list),
-        Acceptance::Refused(number) => Listed::Refused(number),
-        Acceptance::RefusedAt { number, place } => Listed::RefusedAt { number, place },
-    }
+    let stroke = Accepted::new(width, height, p0, p1)?;
+    draw::<CLOSING>(stroke, list)
 }
 
 // The pixels that the stroke from p0 to p1 passes, into the first entries of `list`, and how many. The last one is a closing entry,
@@ -65,15 +65,21 @@ pub fn overlapping_pixels_dda(
     p0: Vec2,
     p1: Vec2,
     list: &mut [u32],
-) -> Listed
+) -> Result<usize, RefusalAt>
     ensures { Promise true width height p0 p1 list.old result list.new }
 {
-    walk(true, width, height, p0, p1, list)
+    walk::<true>(width, height, p0, p1, list)
 }
 
 // The same without the closing entry, so that each entry is a pixel of the image.
-pub fn pixels_inside(width: usize, height: usize, p0: Vec2, p1: Vec2, list: &mut [u32]) -> Listed
+pub fn pixels_inside(
+    width: usize,
+    height: usize,
+    p0: Vec2,
+    p1: Vec2,
+    list: &mut [u32],
+) -> Result<usize, RefusalAt>
     ensures { Promise false width height p0 p1 list.old result list.new }
 {
-    walk(false, width, height, p0, p1, list)
+    walk::<false>(width, height, p0, p1, list)
 }

@@ -1,9 +1,9 @@
 -- What the range routines return. Definitions only.
-use Rattle.std.specs.Prelude.{Bool, cond, not, ◌&&◌, ◌||◌}
+use Rattle.std.specs.Prelude.{Bool, Float, Option, None, Some, Result, Ok, Err, cond, not, ◌&&◌, ◌||◌}
 use Rattle.std.specs.Float.Ieee.{lt, le}
 use Rattle.types.specs.declared.shape.Range.{Range}
-use Rattle.types.specs.declared.answer.Extent.{Extent}
-use Rattle.types.specs.declared.answer.Extent.TheVariants.{None, Some, Refused}
+use Rattle.types.specs.declared.refusal.Refusal.{Refusal}
+use Rattle.types.specs.declared.refusal.Refusal.TheVariants.{Order}
 use Rattle.float.specs.Rounded.{◌⊖◌}
 use Rattle.float.specs.Values.{min_of, max_of}
 
@@ -11,16 +11,16 @@ use Rattle.float.specs.Values.{min_of, max_of}
 abbrev pub unordered_of : Range → Range → Bool
 unordered_of a b = not (le a.low a.high && le b.low b.high)
 
--- refusal 5 where a range is not ordered; none where they touch or overlap
-unfoldable pub distance_to_range_of : Range → Range → Extent
+-- Order where a range is not ordered; none where they touch or overlap
+unfoldable pub distance_to_range_of : Range → Range → Result (Option Float) Refusal
 distance_to_range_of a b =
     cond (unordered_of a b)
-    (Refused 5)
-    (cond (lt b.high a.low) (Some (a.low ⊖ b.high)) (cond (lt a.high b.low) (Some (b.low ⊖ a.high)) None))
+    (Err Order)
+    (cond (lt b.high a.low) (Ok (Some (a.low ⊖ b.high))) (cond (lt a.high b.low) (Ok (Some (b.low ⊖ a.high))) (Ok None)))
 
--- refusal 5 where a range is not ordered; none where they touch or lie apart
-unfoldable pub intersection_length_of : Range → Range → Extent
+-- Order where a range is not ordered; none where they touch or lie apart
+unfoldable pub intersection_length_of : Range → Range → Result (Option Float) Refusal
 intersection_length_of a b =
     cond (unordered_of a b)
-    (Refused 5)
-    (cond (le a.high b.low || le b.high a.low) None (Some (min_of a.high b.high ⊖ max_of a.low b.low)))
+    (Err Order)
+    (cond (le a.high b.low || le b.high a.low) (Ok None) (Ok (Some (min_of a.high b.high ⊖ max_of a.low b.low))))

@@ -4,7 +4,7 @@
 ghost use Rattle.std.specs.Prelude.{◌≡◌};
 ghost use Rattle.range.specs.Values.{unordered_of, distance_to_range_of, intersection_length_of};
 
-use types::{Extent, Range};
+use types::{Range, Refusal};
 
 // A NaN fails each comparison, so the comparisons are those that ordered ranges pass.
 fn unordered(a: Range, b: Range) -> bool
@@ -14,30 +14,30 @@ fn unordered(a: Range, b: Range) -> bool
 }
 
 // The gap between two ranges, or none where they touch or overlap. A range that is not ordered is refused.
-pub fn distance_to_range(a: Range, b: Range) -> Extent
+pub fn distance_to_range(a: Range, b: Range) -> Result<Option<f32>, Refusal>
     ensures { result ≡ distance_to_range_of a b }
 {
     if unordered(a, b) {
-        return Extent::Refused(types::refusal::ORDER);
+        return Err(Refusal::Order);
     }
     if a.low > b.high {
-        return Extent::Some(a.low - b.high);
+        return Ok(Some(a.low - b.high));
     }
     if b.low > a.high {
-        return Extent::Some(b.low - a.high);
+        return Ok(Some(b.low - a.high));
     }
-    Extent::None
+    Ok(None)
 }
 
 // The length that two ranges share, or none where they touch or lie apart. A range that is not ordered is refused.
-pub fn intersection_length(a: Range, b: Range) -> Extent
+pub fn intersection_length(a: Range, b: Range) -> Result<Option<f32>, Refusal>
     ensures { result ≡ intersection_length_of a b }
 {
     if unordered(a, b) {
-        return Extent::Refused(types::refusal::ORDER);
+        return Err(Refusal::Order);
     }
     if (a.high <= b.low) | (a.low >= b.high) {
-        return Extent::None;
+        return Ok(None);
     }
-    Extent::Some(float::min(a.high, b.high) - float::max(a.low, b.low))
+    Ok(Some(float::min(a.high, b.high) - float::max(a.low, b.low)))
 }

@@ -6,19 +6,20 @@ use native.Mathlib.Omega.{arith}
 use lib.ListN.{length, take, length-append}
 use lib.Ieee.{Float}
 use Rattle.lists.specs.Lent.{written}
-use Rattle.types.specs.declared.answer.Interval.{Interval}
-use Rattle.types.specs.declared.answer.Interval.TheVariants.{Miss, Hit}
-use Rattle.text.specs.Page.{Page, page, Adds}
+use Rattle.slabs.specs.declared.Interval.{Interval}
+use Rattle.slabs.specs.declared.Interval.TheVariants.{Miss, Hit}
+use Rattle.text.specs.Page.{Page, page, puts}
 use Rattle.text.specs.Ascii.{ascii}
 use Rattle.text.specs.Numbers.{decimal, hex8}
 use Rattle.text.proofs.Laws.{whole}
 use Rattle.text.proofs.Decimal.{decimal_4, decimal_5}
 use Rattle.hatch_format.specs.Format.{hsl, rows, head_of}
-use Rattle.hatch_format.specs.Decode.{Answer, refused, accepted, body_of, decode, patterns_of, float_of}
+use Rattle.hatch_format.specs.Decode.{Answer, body_of, decode, patterns_of, float_of}
 use Rattle.hatch_format.proofs.Bounds.{Bounded, bounded}
-use Rattle.hatch_format.specs.declared.header.Row.{Row}
 use Rattle.hatch_format.specs.declared.header.Head.{Head}
-use Rattle.hatch_format.specs.declared.header.Head.TheVariants as head
+use Rattle.std.specs.Prelude.{Result, Ok, Err}
+use Rattle.types.specs.Refusal.{number_of}
+use Rattle.types.specs.declared.refusal.RefusalAt.{RefusalAt}
 use Rattle.report.specs.Report.{clip_at, field_of, end_of, line_of, lines_of, opening_of, refusal_of, text_of, report_of}
 
 end_length : (x : Float) → length (end_of x) ≡ 9
@@ -57,46 +58,50 @@ lines_length fs (suc n) h =
 
 text_length : (a : Answer) → Bounded a → length (text_of a) ≤ 54014
 unfolding Bounded text_of opening_of refusal_of
-text_length (refused k place) s =
+text_length (Err at) s =
     omega (
       arith,
-      length-append (field_of k) (field_of place ++ ascii "\n"),
-      length-append (field_of place) (ascii "\n"),
-      field_length k 4 (decimal_4 k (omega (arith, s.0))),
-      field_length place 5 (decimal_5 place (omega (arith, s.1))),
+      length-append (field_of (number_of at.refusal)) (field_of at.place ++ ascii "\n"),
+      length-append (field_of at.place) (ascii "\n"),
+      field_length (number_of at.refusal) 4 (decimal_4 (number_of at.refusal) (omega (arith, s.0))),
+      field_length at.place 5 (decimal_5 at.place (omega (arith, s.1))),
     )
-text_length (accepted v n ps) s =
+text_length (Ok c) s =
     omega (
       arith,
-      length-append (opening_of v n) (lines_of (map float_of ps) n),
-      length-append (field_of v) (field_of n ++ ascii "\n"),
-      length-append (field_of n) (ascii "\n"),
-      field_length v 4 (decimal_4 v s.0),
-      field_length n 4 (decimal_4 n (omega (arith, s.1))),
-      lines_length (map float_of ps) n s.1,
+      length-append (opening_of c.version c.count) (lines_of (map float_of c.patterns) c.count),
+      length-append (field_of c.version) (field_of c.count ++ ascii "\n"),
+      length-append (field_of c.count) (ascii "\n"),
+      field_length c.version 4 (decimal_4 c.version s.0),
+      field_length c.count 4 (decimal_4 c.count (omega (arith, s.1))),
+      lines_length (map float_of c.patterns) c.count s.1,
       s.1,
     )
 
--- a text that is the report, put at the start of the list l
-module _ (b l l' : List ℕ) (r : ℕ) (t : Adds (page l 0) (report_of b) (page l' r)) where
-  short : length (report_of b) ≤ 54014
+-- a page on which the report was put, first of all: l is the list lent, and l' what it holds then
+module _ (b l l' : List ℕ) (size : ℕ) (short : length l ≤ 0xffff_ffff_ffff_ffff) (text : page l' size ≡ puts (page l 0) (report_of b)) where
+  few : length (report_of b) ≤ 54014
   unfolding report_of
-  short = text_length (decode hsl rows b) (bounded b)
+  few = text_length (decode hsl rows b) (bounded b)
 
-  all : page l' r ≡ page (written (take (length l) (report_of b)) l) (length (report_of b))
-  all = t.adds ∙ whole (report_of b) l (omega (arith, short))
+  all : page l' size ≡ page (written (take (length l) (report_of b)) l) (length (report_of b))
+  all = text ∙ whole (report_of b) l (omega (arith, few)) short
 
-  pub reports : (r ≡ length (report_of b)) × ((l' ≡ written (take (length l) (report_of b)) l) × (r ≤ 54014))
-  reports =
-      let size : r ≡ length (report_of b) = ap (λ (p : Page). p.size) all in
-      (size, (ap (λ (p : Page). p.bytes) all, omega (arith, size, short)))
+  pub size_is : size ≡ length (report_of b)
+  size_is = ap (λ (p : Page). p.size) all
 
--- h is the answer of the call that gives the header, and a match has found what h is
-module _ (b : List ℕ) {h : Head} (is : h ≡ head_of hsl rows b) where
-  pub refusal : {k place : ℕ} → h ≡ head.Refused k place → refusal_of k place ≡ report_of b
+  pub list_is : l' ≡ written (take (length l) (report_of b)) l
+  list_is = ap (λ (p : Page). p.bytes) all
+
+  pub size_below : size ≤ 54014
+  size_below = omega (arith, size_is, few)
+
+-- r is the answer of the call that gives the header, and a match has found what r is
+module _ (b : List ℕ) {r : Result Head RefusalAt} (is : r ≡ head_of hsl rows b) where
+  pub refusal : {at : RefusalAt} → r ≡ Err at → refusal_of at ≡ report_of b
   unfolding report_of decode body_of text_of
-  refusal e = ap (λ (x : Head). text_of (body_of x b)) (sym e ∙ is)
+  refusal e = ap (λ (x : Result Head RefusalAt). text_of (body_of x b)) (sym e ∙ is)
 
-  pub records : {r : Row} {n : ℕ} → h ≡ head.Accepted r n → opening_of r.version n ++ lines_of (map float_of (patterns_of r.width b n)) n ≡ report_of b
+  pub records : {h : Head} → r ≡ Ok h → opening_of h.row.version h.count ++ lines_of (map float_of (patterns_of h.row.width b h.count)) h.count ≡ report_of b
   unfolding report_of decode body_of text_of
-  records e = ap (λ (x : Head). text_of (body_of x b)) (sym e ∙ is)
+  records e = ap (λ (x : Result Head RefusalAt). text_of (body_of x b)) (sym e ∙ is)

@@ -1,29 +1,32 @@
 -- What is printed of a hatch list. Definitions only.
-use Rattle.std.specs.Prelude.{cond, List, [], ◌++◌, map, ℕ, zero, suc, ◌+◌, ◌*◌, get_or, Float}
+use Rattle.std.specs.Prelude.{cond, List, [], ◌++◌, map, ℕ, zero, suc, ◌+◌, ◌*◌, get_or, Float, Ok, Err}
 use Rattle.std.specs.Float.{nan, binary32}
 use Rattle.std.specs.Float.Ieee.{eq, to_bits}
-use Rattle.types.specs.declared.answer.Interval.{Interval}
-use Rattle.types.specs.declared.answer.Interval.TheVariants.{Miss, Hit}
+use Rattle.types.specs.Refusal.{number_of}
+use Rattle.types.specs.declared.refusal.RefusalAt.{RefusalAt}
+use Rattle.slabs.specs.declared.Interval.{Interval}
+use Rattle.slabs.specs.declared.Interval.TheVariants.{Miss, Hit}
 use Rattle.float.specs.Rounded.{+0}
 use Rattle.aabb.specs.Clip.{intersections_against_line_of}
 use Rattle.hatch_format.specs.Format.{hsl, rows}
-use Rattle.hatch_format.specs.Decode.{Answer, refused, accepted, decode, float_of}
+use Rattle.hatch_format.specs.Decode.{Answer, decode, float_of}
+use Rattle.hatch_read.specs.Record.{record_by}
+use Rattle.hatch_read.specs.declared.Record.{Record}
 use Rattle.text.specs.Ascii.{ascii}
 use Rattle.text.specs.Numbers.{decimal, hex8}
 
 -- ---- one record
 
--- float i of record k, in a list of floats, eight a record: box (low x, low y, high x, high y), point, direction
-abbrev pub float_in : List Float → ℕ → ℕ → Float
-float_in fs k i = get_or fs (8 * k + i) nan
+-- record k, in a list of floats, eight a record
+abbrev pub record_in : List Float → ℕ → Record
+record_in fs k = record_by λ i. get_or fs (8 * k + i) nan
 
--- record k, clipped as a line
+-- a record, clipped as a line
+abbrev pub clip_of : Record → Interval
+clip_of r = intersections_against_line_of r.face r.point r.direction
+
 abbrev pub clip_at : List Float → ℕ → Interval
-clip_at fs k =
-    intersections_against_line_of
-    (record { min_x = float_in fs k 0; min_y = float_in fs k 1; max_x = float_in fs k 2; max_y = float_in fs k 3 })
-    (record { x = float_in fs k 4; y = float_in fs k 5 })
-    (record { x = float_in fs k 6; y = float_in fs k 7 })
+clip_at fs k = clip_of (record_in fs k)
 
 -- ---- its line
 
@@ -53,12 +56,12 @@ lines_of fs (suc k) = lines_of fs k ++ line_of (k + 1) (clip_at fs k)
 unfoldable pub opening_of : ℕ → ℕ → List ℕ
 opening_of version n = hsl ++ (field_of version ++ (field_of n ++ ascii "\n"))
 
-unfoldable pub refusal_of : ℕ → ℕ → List ℕ
-refusal_of number place = ascii "refused" ++ (field_of number ++ (field_of place ++ ascii "\n"))
+unfoldable pub refusal_of : RefusalAt → List ℕ
+refusal_of at = ascii "refused" ++ (field_of (number_of at.refusal) ++ (field_of at.place ++ ascii "\n"))
 
 unfoldable pub text_of : Answer → List ℕ
-text_of (refused number place) = refusal_of number place
-text_of (accepted version n ps) = opening_of version n ++ lines_of (map float_of ps) n
+text_of (Err at) = refusal_of at
+text_of (Ok c) = opening_of c.version c.count ++ lines_of (map float_of c.patterns) c.count
 
 -- the report on the bytes of a file
 unfoldable pub report_of : List ℕ → List ℕ

@@ -4,18 +4,21 @@
 ghost use Rattle.std.specs.Prelude.{◌≡◌, map, ◌≤◌, length, take};
 ghost use Rattle.lists.specs.Lent.{written};
 ghost use Rattle.hatch_format.specs.Decode.{float_of, patterns_of, Holds};
-ghost use Rattle.text.specs.Page.{page, Adds};
-ghost use Rattle.report.specs.Report.{clip_at, shown, field_of, end_of, line_of, lines_of, opening_of, refusal_of, report_of};
+ghost use Rattle.text.specs.Page.{Adds};
+ghost use Rattle.report.specs.Report.{shown, field_of, end_of, line_of, lines_of, opening_of, refusal_of, report_of};
 
+use bits::Entry;
 use hatch_format::{HSL, Head, RECORDS_AT};
-use types::{Aabb2, Interval, Vec2};
+use slabs::Interval;
+use text::Page;
+use types::RefusalAt;
 
 // A space, and a number in decimal.
-fn put_field(out: &mut [u8], at: usize, n: usize) -> usize
-    ensures { Adds (page out.old at) (field_of n) (page out.new result) }
+fn put_field(page: &mut Page<'_>, n: usize)
+    ensures { Adds page.old (field_of n) page.new }
 {
-    let to = text::put_byte(out, at, b' ');
-    text::put_decimal(out, to, n)
+    page.put(b" ");
+    page.put_decimal(n);
 }
 
 // The bits of a float, and 0 for any zero.
@@ -23,79 +26,76 @@ fn put_field(out: &mut [u8], at: usize, n: usize) -> usize
 fn shown_bits(x: f32) -> u32
     ensures { result ≡ shown x }
 {
-    if x == 0.0 { 0 } else { bits::to_bits(x) }
+    if x == 0.0 { 0 } else { x.to_word() }
 }
 
 // A space, and an end of an interval as the eight hexadecimal digits of its bits.
-fn put_end(out: &mut [u8], at: usize, x: f32) -> usize
-    ensures { Adds (page out.old at) (end_of x) (page out.new result) }
+fn put_end(page: &mut Page<'_>, x: f32)
+    ensures { Adds page.old (end_of x) page.new }
 {
-    let to = text::put_byte(out, at, b' ');
-    text::put_hex8(out, to, shown_bits(x))
+    page.put(b" ");
+    page.put_hex8(shown_bits(x));
 }
 
 // The line of a record, from its place and what is left of its line.
-fn put_line(out: &mut [u8], at: usize, place: usize, t: Interval) -> usize
-    ensures { Adds (page out.old at) (line_of place t) (page out.new result) }
+fn put_line(page: &mut Page<'_>, place: usize, t: Interval)
+    ensures { Adds page.old (line_of place t) page.new }
 {
-    let a = text::put_decimal(out, at, place);
+    page.put_decimal(place);
     match t {
-        Interval::Miss => text::put_text(out, a, b" miss\n"),
-        Interval::Hit(tmin, tmax) => {
-            let b = text::put_text(out, a, b" hit");
-            let c = put_end(out, b, tmin);
-            let d = put_end(out, c, tmax);
-            text::put_byte(out, d, b'\n')
+        Interval::Miss => page.put(b" miss\n"),
+        Interval::Hit { tmin, tmax } => {
+            page.put(b" hit");
+            put_end(page, tmin);
+            put_end(page, tmax);
+            page.put(b"\n");
         }
     }
 }
 
-// The floats of a record, clipped as a line.
-fn clip(f: [f32; 8]) -> Interval
-    ensures { result ≡ clip_at f 0 }
-{
-    let face = Aabb2 {
-        min_x: f[0],
-        min_y: f[1],
-        max_x: f[2],
-        max_y: f[3],
-    };
-    let point = Vec2 { x: f[4], y: f[5] };
-    let direction = Vec2 { x: f[6], y: f[7] };
-    aabb::intersections_against_line(face, point, direction)
-}
-
-// The lines of all records, places from 1.
-fn put_lines(out: &mut [u8], at: usize, bytes: &[u8], width: usize, count: usize) -> usize
+// The lines of all records, places from 1. Every record is there.
+#[tactic(auto, using(hatch_format::proofs::Records::record_not_missing))]
+fn put_lines(page: &mut Page<'_>, bytes: &[u8], width: usize, count: usize)
     requires { Holds width count bytes.now }
-    ensures { Adds (page out.old at) (lines_of (map float_of (patterns_of width bytes.now count)) count) (page out.new result) }
+    ensures { Adds page.old (lines_of (map float_of (patterns_of width bytes.now count)) count) page.new }
 {
-    let mut to = at;
-    let mut k = 0;
-    while k < count {
-        let record = hatch_read::record_floats(bytes, RECORDS_AT + width * k);
-        to = put_line(out, to, k + 1, clip(record));
-        k += 1;
+    for k in 0..count {
+        let Some(r) = hatch_read::record_at(bytes, RECORDS_AT + width * k) else {
+            return;
+        };
+        let clipped = aabb::intersections_against_line(r.face, r.point, r.direction);
+        put_line(page, k + 1, clipped);
     }
-    to
 }
 
-fn put_opening(out: &mut [u8], version: usize, count: usize) -> usize
-    ensures { Adds (page out.old 0) (opening_of version count) (page out.new result) }
+fn put_opening(page: &mut Page<'_>, version: usize, count: usize)
+    ensures { Adds page.old (opening_of version count) page.new }
 {
-    let a = text::put_text(out, 0, &HSL);
-    let b = put_field(out, a, version);
-    let c = put_field(out, b, count);
-    text::put_byte(out, c, b'\n')
+    page.put(&HSL);
+    put_field(page, version);
+    put_field(page, count);
+    page.put(b"\n");
 }
 
-fn put_refusal(out: &mut [u8], number: u32, place: usize) -> usize
-    ensures { Adds (page out.old 0) (refusal_of number place) (page out.new result) }
+fn put_refusal(page: &mut Page<'_>, at: RefusalAt)
+    ensures { Adds page.old (refusal_of at) page.new }
 {
-    let a = text::put_text(out, 0, b"refused");
-    let b = put_field(out, a, number as usize);
-    let c = put_field(out, b, place);
-    text::put_byte(out, c, b'\n')
+    page.put(b"refused");
+    put_field(page, at.refusal.number() as usize);
+    put_field(page, at.place);
+    page.put(b"\n");
+}
+
+fn put_report(page: &mut Page<'_>, bytes: &[u8])
+    ensures { Adds page.old (report_of bytes.now) page.new }
+{
+    match hatch_format::head_of(&HSL, bytes) {
+        Err(at) => put_refusal(page, at),
+        Ok(Head { row, count }) => {
+            put_opening(page, row.version, count);
+            put_lines(page, bytes, row.width, count);
+        }
+    }
 }
 
 // Writes the report on a hatch list to the start of `out`, as far as it has room, and answers the length of the whole report.
@@ -104,11 +104,7 @@ pub fn report(bytes: &[u8], out: &mut [u8]) -> usize
     ensures out_after { out.new ≡ written (take (length out.old) (report_of bytes.now)) out.old }
     ensures upper_bound { result ≤ 54014 }
 {
-    match hatch_format::head_of(&HSL, bytes) {
-        Head::Refused { number, place } => put_refusal(out, number, place),
-        Head::Accepted { row, count } => {
-            let at = put_opening(out, row.version, count);
-            put_lines(out, at, bytes, row.width, count)
-        }
-    }
+    let mut page = Page::new(out);
+    put_report(&mut page, bytes);
+    page.size()
 }

@@ -38,8 +38,6 @@ root_of_normal b n q low high split r =
     let above = positive_at b (omega arith) high in
     (f.0, f.1 ∙ ap nearest_root s.value ∙ sym (positive_root (of_bits binary32 b) above))
 
--- the root of x, where a root of its bits is found
-pub root_of_bits : (x : Float) (b : ℕ) → fits binary32 x ≡ true → 0 < b →
-    (0 < b → of_bits binary32 b ≡ sqrt_of (of_bits binary32 (to_bits binary32 x))) → of_bits binary32 b ≡ sqrt_of x
-root_of_bits x b held some found =
-    found some ∙ sym (ap sqrt_of (from_bits x (to_bits binary32 x) (subst T (sym held) tt) refl))
+-- the root of x by its bits
+pub root_of_bits : (x : Float) (b : ℕ) → fits binary32 x ≡ true → of_bits binary32 b ≡ sqrt_of (of_bits binary32 (to_bits binary32 x)) → of_bits binary32 b ≡ sqrt_of x
+root_of_bits x b held found = found ∙ sym (ap sqrt_of (from_bits x (to_bits binary32 x) (subst T (sym held) tt) refl))

@@ -6,7 +6,7 @@ use Prim.Native.Nat.{ℕ, ◌*◌, ◌^◌, ◌≤◌, ◌<◌}
 use native.Mathlib.Nat.{le_trans, le_of_eq, le_of_lt, mul-one, zero-mul, le_of_mul-le-mul_right}
 use lib.IntN.{ℤ, pos}
 use lib.Dec.{T, ltb, eqb, ltb→lt, eqb→eq, lit≤}
-use lib.Ieee.{Float, nan, inf, fin, binary32, up, down, round, neg, le, lt, eq}
+use lib.Ieee.{Float, nan, inf, fin, Format, binary32, up, down, round, neg, le, lt, eq}
 use lib.Ieee.Fits.{down_pos, and_l}
 use lib.Ieee.Exact.{HasValue}
 use lib.Ieee.Order.{round_mono, transfer}
@@ -80,15 +80,26 @@ neg_over g p q (inf s) h = h
 neg_over g p q (fin true m e) h = absurd (true≢false h.0)
 neg_over g p q (fin false m e) h = (refl, h.1, h.2)
 
--- a / c from p / g to q / g rounds to a value from p / g to q / g
+-- a / c from p / g to q / g rounds to a value from p / g to q / g, in either format
+pub over :
+    (f : Format) (g a c p q : ℕ) →
+    0 < g →
+    0 < c →
+    HasValue (round f false p g) false p g →
+    HasValue (round f false q g) false q g →
+    p * c ≤ a * g →
+    a * g ≤ q * c →
+    MagOver g false p q (round f false a c)
+over f g a c p q G C u w lo hi =
+    let below : T (le (round f false p g) (round f false a c)) = round_mono f p g a c G C lo in
+    let above : T (le (round f false a c) (round f false q g)) = round_mono f a c q g C G hi in
+    mag_of _ _ (round f false a c) g p q _ _ u w
+    (round_val f a c (round_under f a c (inner _ _ (round f false a c) g p q u w below above))) below above
+
 module _ (g a c p q : ℕ) (G : 0 < g) (C : 0 < c) (u : HasValue (round binary32 false p g) false p g) (w : HasValue (round binary32 false q g) false q g)
     (lo : p * c ≤ a * g) (hi : a * g ≤ q * c) where
   plus_over : MagOver g false p q (round binary32 false a c)
-  plus_over =
-      let below : T (le (round binary32 false p g) (round binary32 false a c)) = round_mono binary32 p g a c G C lo in
-      let above : T (le (round binary32 false a c) (round binary32 false q g)) = round_mono binary32 a c q g C G hi in
-      mag_of _ _ (round binary32 false a c) g p q _ _ u w
-      (round_val binary32 a c (round_under binary32 a c (inner _ _ (round binary32 false a c) g p q u w below above))) below above
+  plus_over = over binary32 g a c p q G C u w lo hi
 
   pub round_over : (s : Bool) → MagOver g s p q (round binary32 s a c)
   round_over false = plus_over

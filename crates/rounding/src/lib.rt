@@ -56,47 +56,6 @@ pub fn ceil(x: f32) -> f32
 }
 
 // The casts go toward zero, are held at the type's ends, and give 0 for a NaN. Most numbers are below 2 ^ 24, so that is tested first.
-pub fn to_i32(x: f32) -> i32
-    ensures { result ≡ to_signed 31 x }
-{
-    let a = -x;
-    if x >= 1.0 {
-        if x < 16777216.0 {
-            whole_part(x) as i32
-        } else if x < 2147483648.0 {
-            std::num::truncating_f32_to_u64(x) as i32
-        } else {
-            2147483647
-        }
-    } else if a >= 1.0 {
-        if a < 16777216.0 {
-            -(whole_part(a) as i32)
-        } else if a < 2147483648.0 {
-            -(std::num::truncating_f32_to_u64(a) as i32)
-        } else {
-            -2147483648
-        }
-    } else {
-        0
-    }
-}
-
-pub fn to_u32(x: f32) -> u32
-    ensures { result ≡ to_unsigned 32 x }
-{
-    if x >= 1.0 {
-        if x < 16777216.0 {
-            whole_part(x)
-        } else if x < 4294967296.0 {
-            std::num::truncating_f32_to_u64(x) as u32
-        } else {
-            4294967295
-        }
-    } else {
-        0
-    }
-}
-
 pub fn to_usize(x: f32) -> usize
     ensures { result ≡ to_unsigned 64 x }
 {
@@ -106,9 +65,29 @@ pub fn to_usize(x: f32) -> usize
         } else if x < 18446744073709551616.0 {
             std::num::truncating_f32_to_u64(x) as usize
         } else {
-            18446744073709551615
+            usize::MAX
         }
     } else {
         0
+    }
+}
+
+// Below 2 ^ 24 the cut costs nothing: the whole part shows LLVM that it is small.
+#[tactic(auto, using(crate::proofs::Sizes::unsigned_narrow))]
+pub fn to_u32(x: f32) -> u32
+    ensures { result ≡ to_unsigned 32 x }
+{
+    to_usize(x).min(u32::MAX as usize) as u32
+}
+
+// The size of a negative number may be 2 ^ 31.
+pub fn to_i32(x: f32) -> i32
+    ensures { result ≡ to_signed 31 x }
+{
+    if x < 0.0 {
+        let size = to_usize(-x).min(1 << 31) as i64;
+        -size as i32
+    } else {
+        to_usize(x).min(i32::MAX as usize) as i32
     }
 }

@@ -1,9 +1,9 @@
 -- The clip of a line against an upright box, in any number of dimensions: a fold over slabs. Definitions only.
-use Rattle.std.specs.Prelude.{cond, ◌||◌, List, [], ◌∷◌, Float}
+use Rattle.std.specs.Prelude.{Bool, cond, ◌||◌, List, [], ◌∷◌, Float}
 use Rattle.std.specs.Float.{binary32}
-use Rattle.std.specs.Float.Ieee.{of_bits, lt, le, ne, neg}
-use Rattle.types.specs.declared.answer.Interval.{Interval}
-use Rattle.types.specs.declared.answer.Interval.TheVariants.{Miss, Hit}
+use Rattle.std.specs.Float.Ieee.{of_bits, ne, lt, le, neg}
+use Rattle.slabs.specs.declared.Interval.{Interval}
+use Rattle.slabs.specs.declared.Interval.TheVariants.{Miss, Hit}
 use Rattle.float.specs.Rounded.{◌⊖◌, ◌⊘◌, +0}
 use Rattle.float.specs.Values.{min_of, max_of}
 use Rattle.slabs.specs.declared.Slab.{Slab}
@@ -29,13 +29,26 @@ at_low s = parameter_at s s.low
 abbrev pub at_high : Slab → Float
 at_high s = parameter_at s s.high
 
--- One slab narrows an interval. A direction of either zero only tests whether the origin is outside.
+-- the smaller and the larger of the two; a NaN drops out
+abbrev pub entry_of : Slab → Float
+entry_of s = min_of (at_low s) (at_high s)
+
+abbrev pub exit_of : Slab → Float
+exit_of s = max_of (at_low s) (at_high s)
+
+-- whether the line crosses the slab: with a direction of either zero it goes along
+abbrev pub crosses : Slab → Bool
+crosses s = ne s.direction +0
+
+-- whether the origin is outside of the slab
+abbrev pub outside : Slab → Bool
+outside s = lt s.origin s.low || lt s.high s.origin
+
+-- One slab narrows an interval. Along a slab only the origin counts.
 unfoldable pub narrowed_of : Slab → Interval → Interval
 narrowed_of s Miss = Miss
 narrowed_of s (Hit tmin tmax) =
-    cond (ne s.direction +0)
-    (Hit (max_of tmin (min_of (at_low s) (at_high s))) (min_of tmax (max_of (at_low s) (at_high s))))
-    (cond (lt s.origin s.low || lt s.high s.origin) Miss (Hit tmin tmax))
+    cond (crosses s) (Hit (max_of tmin (entry_of s)) (min_of tmax (exit_of s))) (cond (outside s) Miss (Hit tmin tmax))
 
 -- each slab in turn, in the list's order
 unfoldable pub narrow_all : List Slab → Interval → Interval

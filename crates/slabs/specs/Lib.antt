@@ -1,2 +1,3 @@
 pub mod Clip
 pub mod Inside
+pub mod Promise

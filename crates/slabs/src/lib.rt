@@ -1,14 +1,20 @@
 // An upright box, dimension by dimension: a slab is what one dimension has of the box and of a line that is clipped against it.
-#![tactic(auto, unfolding(crate::specs::Clip::narrowed_of, crate::specs::Clip::ordered_of, crate::specs::Clip::ahead_of))]
+#![tactic(auto, unfolding(crate::specs::Clip::narrowed_of, crate::specs::Clip::ordered_of, crate::specs::Clip::ahead_of, crate::specs::Clip::narrow_all, crate::specs::Clip::clip_over))]
 
 ghost use Rattle.std.specs.Prelude.{◌≡◌};
-ghost use Rattle.slabs.specs.Clip.{all_finite_of, narrowed_of, ordered_of, ahead_of};
+ghost use Rattle.slabs.specs.Clip.{outside, all_finite_of, narrowed_of, ordered_of, ahead_of, clip_over};
+ghost use Rattle.slabs.specs.Promise.{IsLineAnswer};
 ghost use Rattle.slabs.specs.Inside.{within_of};
 
-use types::Interval;
+// The stretch of a line or a ray inside a box, by the parameter at which it enters and leaves. An enum of its own: that form is asked for.
+#[derive(Clone, Copy, Debug, PartialEq)]
+pub enum Interval {
+    Miss,
+    Hit { tmin: f32, tmax: f32 },
+}
 
 // One dimension: the box from low to high, and the line's origin and direction.
-#[derive(Clone, Copy)]
+#[derive(Clone, Copy, Debug, PartialEq)]
 pub struct Slab {
     pub low: f32,
     pub high: f32,
@@ -16,72 +22,87 @@ pub struct Slab {
     pub direction: f32,
 }
 
-// Every finite number, where a clip starts.
-pub fn all_finite() -> Interval
-    ensures { result ≡ all_finite_of }
-{
-    Interval::Hit(
-        -340282346638528859811704183484516925440.0,
-        340282346638528859811704183484516925440.0,
-    )
+impl Slab {
+    // Whether the line's origin is outside.
+    fn is_outside(self) -> bool
+        ensures { result ≡ outside self }
+    {
+        self.origin < self.low || self.origin > self.high
+    }
 }
 
-// What a slab leaves of an interval. A miss stays one.
-// The second quotient stands in for a NaN in the first, so that one comparison orders them.
-pub fn narrowed(s: Slab, i: Interval) -> Interval
-    ensures { result ≡ narrowed_of s i }
-{
-    match i {
-        Interval::Miss => Interval::Miss,
-        Interval::Hit(tmin, tmax) => {
-            if s.direction != 0.0 {
-                let t2 = (s.high - s.origin) / s.direction;
-                let t1 = float::number_or((s.low - s.origin) / s.direction, t2);
-                Interval::Hit(
-                    float::max(tmin, float::lesser(t1, t2)),
-                    float::min(tmax, float::greater(t1, t2)),
-                )
-            } else if s.origin < s.low {
-                Interval::Miss
-            } else if s.origin > s.high {
-                Interval::Miss
-            } else {
-                Interval::Hit(tmin, tmax)
+impl Interval {
+    // Every finite number, where a clip starts.
+    pub fn all_finite() -> Self
+        ensures { result ≡ all_finite_of }
+    {
+        Interval::Hit {
+            tmin: f32::MIN,
+            tmax: f32::MAX,
+        }
+    }
+
+    // What a slab leaves of an interval. A miss stays one.
+    pub fn narrowed(self, s: Slab) -> Self
+        ensures { result ≡ narrowed_of s self }
+    {
+        let Interval::Hit { tmin, tmax } = self else {
+            return Interval::Miss;
+        };
+        if s.direction != 0.0 {
+            // The second quotient stands in for a NaN in the first, so that one comparison orders them.
+            let t2 = (s.high - s.origin) / s.direction;
+            let t1 = float::number_or((s.low - s.origin) / s.direction, t2);
+            Interval::Hit {
+                tmin: float::max(tmin, float::lesser(t1, t2)),
+                tmax: float::min(tmax, float::greater(t1, t2)),
             }
+        } else if s.is_outside() {
+            Interval::Miss
+        } else {
+            Interval::Hit { tmin, tmax }
+        }
+    }
+
+    // The interval, or a miss where its ends are not in order.
+    pub fn ordered(self) -> Self
+        ensures { result ≡ ordered_of self }
+    {
+        let Interval::Hit { tmin, tmax } = self else {
+            return Interval::Miss;
+        };
+        if tmax >= tmin {
+            Interval::Hit { tmin, tmax }
+        } else {
+            Interval::Miss
+        }
+    }
+
+    // A ray's answer from its line's: the interval where it ends at 0 or later. Its start is not raised to 0.
+    pub fn ahead(self) -> Self
+        ensures { result ≡ ahead_of self }
+    {
+        let Interval::Hit { tmin, tmax } = self else {
+            return Interval::Miss;
+        };
+        if tmax >= 0.0 {
+            Interval::Hit { tmin, tmax }
+        } else {
+            Interval::Miss
         }
     }
 }
 
-// The interval, or a miss where its ends are not in order.
-pub fn ordered(i: Interval) -> Interval
-    ensures { result ≡ ordered_of i }
+// The stretch of a line inside the box whose dimensions the slabs are.
+pub fn clip<const N: usize>(slabs: &[Slab; N]) -> Interval
+    ensures answers { result ≡ clip_over slabs.now }
+    ensures means { IsLineAnswer slabs.now result }
 {
-    match i {
-        Interval::Miss => Interval::Miss,
-        Interval::Hit(tmin, tmax) => {
-            if tmax >= tmin {
-                Interval::Hit(tmin, tmax)
-            } else {
-                Interval::Miss
-            }
-        }
+    let mut interval = Interval::all_finite();
+    for s in slabs {
+        interval = interval.narrowed(*s);
     }
-}
-
-// A ray's answer from its line's: the interval where it ends at 0 or later. Its start is not raised to 0.
-pub fn ahead(i: Interval) -> Interval
-    ensures { result ≡ ahead_of i }
-{
-    match i {
-        Interval::Miss => Interval::Miss,
-        Interval::Hit(tmin, tmax) => {
-            if tmax >= 0.0 {
-                Interval::Hit(tmin, tmax)
-            } else {
-                Interval::Miss
-            }
-        }
-    }
+    interval.ordered()
 }
 
 // Whether a point's coordinate is in one dimension of a box, ends included. A NaN is outside.

@@ -3,3 +3,5 @@ pub mod Stops
 pub mod Axes
 pub mod Walking
 pub mod Sides
+pub mod Images
+pub mod Paces

@@ -32,6 +32,15 @@ module _ (a b : Axis) where
       go true h = omega arith
       go false h = omega arith
 
+  pub found_ge : (n k : ℕ) → k ≤ found n k
+  unfolding first_outside
+  found_ge zero k = omega arith
+  found_ge (suc n) k = go (goes_on a b k) (found_ge n (suc k))
+    where
+      go : (t : Bool) → suc k ≤ found n (suc k) → k ≤ first_outside a b (suc n) t k
+      go true h = omega arith
+      go false h = omega arith
+
   found_on : (n k i : ℕ) → k ≤ i → i < found n k → goes_on a b i ≡ true
   unfolding first_outside
   found_on zero k i l h = absurd (let z : ⊥ = omega arith in z)
@@ -68,6 +77,19 @@ module _ (a b : Axis) where
   pub exit_le : exit a b ≤ most_steps
   unfolding exit
   exit_le = omega (arith, found_le most_steps 0)
+
+  pub goes_before : (k : ℕ) → k < exit a b → goes_on a b k ≡ true
+  unfolding exit
+  goes_before k h = found_on most_steps 0 k (omega arith) h
+
+  -- from any position up to it
+  pub found_from : (k : ℕ) → k ≤ exit a b → exit a b ≡ found (most_steps - k) k
+  unfolding exit
+  found_from zero h = refl
+  found_from (suc k) h =
+      let few : exit a b ≤ most_steps = exit_le in
+      let e : most_steps - k ≡ suc (most_steps - suc k) = omega arith in
+      found_from k (omega arith) ∙ ap (λ (i : ℕ). found i k) e ∙ found_later (most_steps - suc k) k (found_on most_steps 0 k (omega arith) (omega arith))
 
   pub stops : goes_on a b most_steps ≡ false → Stops a b
   unfolding exit

@@ -1,25 +1,39 @@
-// Positions in an image.
-ghost use Rattle.std.specs.Prelude.{◌≡◌};
+// The image over which a stroke is walked.
+ghost use Rattle.std.specs.Prelude.{◌≡◌, ◌≤◌};
 ghost use Rattle.stroke.specs.Image.{on_side_of, in_sides_of};
 
 use types::Vec2;
+
+// At most 16,384 pixels a side, so that a side is exact as a float and the number of a pixel fits.
+#[derive(Clone, Copy, Debug, PartialEq, Eq)]
+pub struct Image {
+    pub width: usize,
+    pub height: usize,
+    pub ghost wide: { width ≤ 16384 },
+    pub ghost high: { height ≤ 16384 },
+}
 
 // At least 0 and below the side.
 fn on_side(side: f32, x: f32) -> bool
     ensures { result ≡ on_side_of side x }
 {
-    if x >= 0.0 {
-        return x < side;
-    }
-    false
+    (x >= 0.0) & (x < side)
 }
 
 // Whether p is in an image with these sides.
 pub fn in_sides(wide: f32, high: f32, p: Vec2) -> bool
     ensures { result ≡ in_sides_of wide high p }
 {
-    if on_side(wide, p.x) {
-        return on_side(high, p.y);
+    on_side(wide, p.x) & on_side(high, p.y)
+}
+
+impl Image {
+    ghost use Rattle.stroke.specs.Image.{on_image};
+
+    // Whether p is in the image.
+    pub fn contains(self, p: Vec2) -> bool
+        ensures { result ≡ on_image self.width self.height p }
+    {
+        in_sides(self.width as f32, self.height as f32, p)
     }
-    false
 }

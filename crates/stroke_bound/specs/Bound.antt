@@ -1,8 +1,7 @@
 -- How many entries a stroke makes at most, by its ends and by the sides of the image, to size a list beforehand. Definitions only.
-use Rattle.std.specs.Prelude.{Bool, true, ℕ, ◌+◌, ◌-◌, ◌*◌, ◌/◌, ◌^◌, max, min, nat_abs, ◌-ℤ◌, Float}
+use Rattle.std.specs.Prelude.{Bool, true, ℕ, ◌+◌, ◌-◌, ◌*◌, ◌/◌, ◌^◌, max, min, nat_abs, ◌-ℤ◌, Float, Result, Ok}
 use Rattle.types.specs.declared.shape.Vec2.{Vec2}
-use Rattle.types.specs.declared.answer.Listed.{Listed}
-use Rattle.types.specs.declared.answer.Listed.TheVariants.{Count}
+use Rattle.types.specs.declared.refusal.RefusalAt.{RefusalAt}
 use Rattle.float.specs.Units.{units_of}
 use Rattle.stroke.specs.Image.{one_if_of}
 use Rattle.stroke_check.specs.Check.{accept_of}
@@ -37,5 +36,5 @@ abbrev pub most_entries_of : Bool → ℕ → ℕ → Vec2 → Vec2 → ℕ
 most_entries_of closing w h p q = min (most_by_ends closing p q) (most_by_sides closing w h)
 
 -- what `pixels_bound` answers: how many entries the stroke makes at most with the closing one, if it is accepted
-unfoldable pub pixels_bound_of : ℕ → ℕ → Vec2 → Vec2 → Listed
-pixels_bound_of w h p q = if_accepted (accept_of w h p q) (Count (most_entries_of true w h p q))
+unfoldable pub pixels_bound_of : ℕ → ℕ → Vec2 → Vec2 → Result ℕ RefusalAt
+pixels_bound_of w h p q = if_accepted (accept_of w h p q) (Ok (most_entries_of true w h p q))

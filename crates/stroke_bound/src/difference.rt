@@ -1,10 +1,10 @@
 // The larger difference between two points, exact and rounded up to a whole number.
-ghost use Rattle.std.specs.Prelude.{◌≡◌, false, ◌^◌, ◌≤◌, max};
+ghost use Rattle.std.specs.Prelude.{◌≡◌, false, ◌^◌, ◌≤◌};
 ghost use Rattle.std.specs.Float.Ieee.{lt};
 ghost use Rattle.rounded.specs.Size.{Size};
 ghost use Rattle.stroke_bound.specs.Bound.{difference_of, up_to, larger_difference_of};
 
-use types::Vec2;
+use stroke::Accepted;
 
 // high - low, exact and rounded up. The whole part n of the rounded difference is that number or one less: one less where high - n is above low.
 // Rounding keeps that order, so a float `high - whole` above low is so exactly; and it is exact itself where high is the larger of the two in
@@ -30,16 +30,10 @@ fn rounded_up(x: f32, y: f32) -> usize
     if y < x { rise(y, x) } else { rise(x, y) }
 }
 
-pub(crate) fn larger(a: usize, b: usize) -> usize
-    ensures { result ≡ max a b }
+// The larger of the differences between a stroke's ends, in x and in y.
+pub(crate) fn larger_difference(stroke: Accepted) -> usize
+    ensures { (result ≡ larger_difference_of stroke.p0 stroke.p1) × (result ≤ 131073) }
 {
-    if a < b { b } else { a }
-}
-
-// The larger of the two differences.
-pub(crate) fn larger_difference(p: Vec2, q: Vec2) -> usize
-    requires { (Size 65536 p.x × Size 65536 p.y) × (Size 65536 q.x × Size 65536 q.y) }
-    ensures { (result ≡ larger_difference_of p q) × (result ≤ 131073) }
-{
-    larger(rounded_up(p.x, q.x), rounded_up(p.y, q.y))
+    let Accepted { p0, p1, .. } = stroke;
+    rounded_up(p0.x, p1.x).max(rounded_up(p0.y, p1.y))
 }

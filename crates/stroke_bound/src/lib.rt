@@ -4,4 +4,4 @@
 mod bound;
 mod difference;
 
-pub use bound::pixels_bound;
+pub use bound::{is_ample, pixels_bound};

@@ -1,5 +1,5 @@
 -- What the tests say of a stroke's ends where none of them refuses it.
-use mathlib.Core.Path.{◌≡◌, refl, sym, ◌∙◌, subst}
+use mathlib.Core.Path.{◌≡◌, refl, sym, ap, ◌∙◌, subst}
 use mathlib.Core.Bool.{Bool, true, false, ◌&&◌, cond, true≢false}
 use mathlib.Core.Logic.{◌⊎◌, inl, inr}
 use mathlib.Core.List.{List, [], ◌∷◌}
@@ -17,10 +17,12 @@ use Rattle.float.proofs.Tests.{neither}
 use Rattle.rounded.specs.Size.{Size}
 use Rattle.rounded.proofs.Round.{le_num}
 use Rattle.rounded.proofs.Sizes.{sub_size}
-use Rattle.stroke_check.specs.declared.Offender.{Offender}
-use Rattle.stroke_check.specs.declared.Offender.TheVariants.{None, Found}
-use Rattle.stroke_check.specs.declared.Acceptance.TheVariants.{Accepted as Yes, Refused, RefusedAt}
-use Rattle.stroke_check.specs.Check.{sides_too_large_of, within_limit_of, number_of, offender_from, first_offender_of, coordinates, same_ends_of, unless_offender, accept_of}
+use lib.Ieee.Scale.{finite}
+use Rattle.std.specs.Prelude.{Option, None, Some, Result, Ok, Err}
+use Rattle.types.specs.declared.refusal.Refusal.TheVariants.{Room, SameEnds, Size as TooLarge, Coordinate as Large, NotFinite}
+use Rattle.types.specs.declared.refusal.RefusalAt.{RefusalAt}
+use Rattle.types.specs.Refusal.{refusal_at, nowhere}
+use Rattle.stroke_check.specs.Check.{sides_too_large_of, within_limit_of, refusal_of, offender_from, first_offender_of, coordinates, same_ends_of, unless_offender, accept_of}
 
 -- a coordinate that is accepted: an f32 of at most 65,536 in size
 pub record Coordinate (x : Float) : Type 0 where
@@ -65,7 +67,7 @@ within_more : (at : ℕ) (x : Float) (xs : List Float) → offender_from at (x �
 unfolding offender_from
 within_more at x xs = go (within_limit_of x)
   where
-    go : (t : Bool) → cond t (offender_from (suc at) xs) (Found (number_of x) at) ≡ None → (t ≡ true) × (offender_from (suc at) xs ≡ None)
+    go : (t : Bool) → cond t (offender_from (suc at) xs) (Some (refusal_at (refusal_of x) at)) ≡ None → (t ≡ true) × (offender_from (suc at) xs ≡ None)
     go true e = (refl, e)
     go false e = absurd (let z : ◌≡◌ {A = ℕ} 0 1 = cc in let y : ⊥ = omega arith in y)
 
@@ -92,39 +94,51 @@ pub record Passed (w h : ℕ) (p q : Vec2) : Type 0 where
   pub high : h ≤ 16384
   pub stroke : Accepted p q
 
-not_refused : {A : Type 0} (k : ℕ) → Refused k ≡ Yes → A
-not_refused k e = absurd (let z : ◌≡◌ {A = ℕ} 0 1 = cc in let y : ⊥ = omega arith in y)
+abbrev yes : Result Unit RefusalAt
+yes = Ok tt
 
-not_refused_at : {A : Type 0} (k place : ℕ) → RefusedAt k place ≡ Yes → A
-not_refused_at k place e = absurd (let z : ◌≡◌ {A = ℕ} 0 1 = cc in let y : ⊥ = omega arith in y)
+not_refused : {A : Type 0} (at : RefusalAt) → ◌≡◌ {A = Result Unit RefusalAt} (Err at) yes → A
+not_refused at e = absurd (let z : ◌≡◌ {A = ℕ} 0 1 = cc in let y : ⊥ = omega arith in y)
 
-pub passed : {w h : ℕ} {p q : Vec2} → AreFloats p q → accept_of w h p q ≡ Yes → Passed w h p q
+pub passed : {w h : ℕ} {p q : Vec2} → AreFloats p q → accept_of w h p q ≡ yes → Passed w h p q
 unfolding accept_of unless_offender sides_too_large_of
 passed {w} {h} {p} {q} f = go (sides_too_large_of w h) (first_offender_of (coordinates p q)) (same_ends_of p q) refl refl refl
   where
     go :
-        (t : Bool) (o : Offender) (u : Bool) → sides_too_large_of w h ≡ t → first_offender_of (coordinates p q) ≡ o → same_ends_of p q ≡ u →
-        cond t (Refused 4) (unless_offender RefusedAt o (cond u (Refused 2) Yes)) ≡ Yes → Passed w h p q
-    go true o u i j k e = not_refused 4 e
-    go false (Found n place) u i j k e = not_refused_at n place e
-    go false None true i j k e = not_refused 2 e
+        (t : Bool) (o : Option RefusalAt) (u : Bool) → sides_too_large_of w h ≡ t → first_offender_of (coordinates p q) ≡ o → same_ends_of p q ≡ u →
+        cond t (Err (nowhere TooLarge)) (unless_offender o (cond u (Err (nowhere SameEnds)) yes)) ≡ yes → Passed w h p q
+    go true o u i j k e = not_refused (nowhere TooLarge) e
+    go false (Some at) u i j k e = not_refused at e
+    go false None true i j k e = not_refused (nowhere SameEnds) e
     go false None false i j k e =
         let s = neither (ltb 16384 w) (ltb 16384 h) i in
         record { wide = ltb-false 16384 w s.0; high = ltb-false 16384 h s.1; stroke = accepted (bounded f j) k }
 
--- none of the tests refuses a short list
-pub not_short : (w h : ℕ) (p q : Vec2) (k : ℕ) → accept_of w h p q ≡ Refused k → k ≡ 1 → ⊥
-unfolding accept_of unless_offender
-not_short w h p q k = go (sides_too_large_of w h) (first_offender_of (coordinates p q)) (same_ends_of p q)
+-- a coordinate is not refused as a short list is
+offends_otherwise : (n : ℕ) (xs : List Float) (at : RefusalAt) → offender_from n xs ≡ Some at → at.refusal ≡ Room → ⊥
+unfolding offender_from refusal_of
+offends_otherwise n [] at = λ e r. let z : ◌≡◌ {A = ℕ} 0 1 = cc in omega arith
+offends_otherwise n (x ∷ xs) at = go (within_limit_of x) (finite x) (offends_otherwise (suc n) xs at)
   where
-    other : (n : ℕ) → (n ≡ 1 → ⊥) → Refused n ≡ Refused k → k ≡ 1 → ⊥
-    other n o e z = o (let y : n ≡ k = cc in y ∙ z)
+    go :
+        (t u : Bool) → (offender_from (suc n) xs ≡ Some at → at.refusal ≡ Room → ⊥) →
+        cond t (offender_from (suc n) xs) (Some (refusal_at (cond u Large NotFinite) n)) ≡ Some at → at.refusal ≡ Room → ⊥
+    go true u more e r = more e r
+    go false true more e r = let z : ◌≡◌ {A = ℕ} 0 1 = cc in omega arith
+    go false false more e r = let z : ◌≡◌ {A = ℕ} 0 1 = cc in omega arith
 
-    go : (t : Bool) (o : Offender) (u : Bool) → cond t (Refused 4) (unless_offender RefusedAt o (cond u (Refused 2) Yes)) ≡ Refused k → k ≡ 1 → ⊥
-    go true o u e z = other 4 (λ y. omega arith) e z
-    go false (Found n place) u e z = let y : ◌≡◌ {A = ℕ} 0 1 = cc in omega arith
-    go false None true e z = other 2 (λ y. omega arith) e z
-    go false None false e z = not_refused k (sym e)
+-- none of the tests refuses a short list
+pub not_short : (w h : ℕ) (p q : Vec2) (at : RefusalAt) → accept_of w h p q ≡ Err at → at.refusal ≡ Room → ⊥
+unfolding accept_of unless_offender
+not_short w h p q at = go (sides_too_large_of w h) (first_offender_of (coordinates p q)) (same_ends_of p q) refl
+  where
+    go :
+        (t : Bool) (o : Option RefusalAt) (u : Bool) → first_offender_of (coordinates p q) ≡ o →
+        cond t (Err (nowhere TooLarge)) (unless_offender o (cond u (Err (nowhere SameEnds)) yes)) ≡ Err at → at.refusal ≡ Room → ⊥
+    go true o u j e r = let z : ◌≡◌ {A = ℕ} 0 1 = cc in omega arith
+    go false (Some found) u j e r = offends_otherwise 0 (coordinates p q) at (let same : found ≡ at = cc in j ∙ ap Some same) r
+    go false None true j e r = let z : ◌≡◌ {A = ℕ} 0 1 = cc in omega arith
+    go false None false j e r = not_refused at (sym e)
 
 -- ---- the difference between two such coordinates
 

@@ -1,2 +1,3 @@
 pub mod Offenders
 pub mod Accepted
+pub mod Outcomes

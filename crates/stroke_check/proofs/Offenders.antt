@@ -7,8 +7,9 @@ use native.Mathlib.Numerals.{add-one}
 use lib.ListN.{length, get_or, drop, drop_of_length-le}
 use lib.Seq.{drop-cons}
 use lib.Ieee.{Float, nan}
-use Rattle.stroke_check.specs.declared.Offender.TheVariants.{None, Found}
-use Rattle.stroke_check.specs.Check.{within_limit_of, number_of, offender_from, first_offender_of}
+use Rattle.std.specs.Prelude.{None, Some}
+use Rattle.types.specs.Refusal.{refusal_at}
+use Rattle.stroke_check.specs.Check.{within_limit_of, refusal_of, offender_from, first_offender_of}
 
 module _ (xs : List Float) where
   pub record Left (i : ℕ) : Type 0 where
@@ -21,14 +22,14 @@ module _ (xs : List Float) where
     abbrev x : Float
     x = get_or xs i nan
 
-    next : first_offender_of xs ≡ cond (within_limit_of x) (offender_from (suc i) (drop (suc i) xs)) (Found (number_of x) i)
+    next : first_offender_of xs ≡ cond (within_limit_of x) (offender_from (suc i) (drop (suc i) xs)) (Some (refusal_at (refusal_of x) i))
     unfolding offender_from
     next = l.left ∙ rw (drop-cons xs i nan h)
 
     pub left_more : within_limit_of x ≡ true → Left (i + 1)
     left_more e = record { left = rw add-one (next ∙ rw e) }
 
-    pub left_found : within_limit_of x ≡ false → Found (number_of x) i ≡ first_offender_of xs
+    pub left_found : within_limit_of x ≡ false → Some (refusal_at (refusal_of x) i) ≡ first_offender_of xs
     left_found e = sym (next ∙ rw e)
 
   pub left_end : (i : ℕ) → length xs ≤ i → Left i → None ≡ first_offender_of xs

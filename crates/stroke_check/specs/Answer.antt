@@ -1,11 +1,8 @@
 -- What a routine answers of a stroke that may be refused. Definitions only.
-use Rattle.types.specs.declared.answer.Listed.{Listed}
-use Rattle.types.specs.declared.answer.Listed.TheVariants.{Refused, RefusedAt}
-use Rattle.stroke_check.specs.declared.Acceptance.{Acceptance}
-use Rattle.stroke_check.specs.declared.Acceptance.TheVariants.{Accepted, Refused as Denied, RefusedAt as DeniedAt}
+use Rattle.std.specs.Prelude.{Result, Ok, Err}
+use Rattle.types.specs.declared.refusal.RefusalAt.{RefusalAt}
 
 -- the refusal, and r if there is none
-unfoldable pub if_accepted : Acceptance → Listed → Listed
-if_accepted Accepted r = r
-if_accepted (Denied number) r = Refused number
-if_accepted (DeniedAt number place) r = RefusedAt number place
+unfoldable pub if_accepted : {A : Type 0} → Result Unit RefusalAt → Result A RefusalAt → Result A RefusalAt
+if_accepted (Ok _) r = r
+if_accepted (Err at) r = Err at

@@ -1,14 +1,14 @@
 -- What is tested of a stroke before it is walked, and of its coordinates before its ink is measured. Definitions only.
-use Rattle.std.specs.Prelude.{Bool, cond, ◌&&◌, ◌||◌, List, [], ◌∷◌, ℕ, suc, ltb, Float}
+use Rattle.std.specs.Prelude.{Bool, cond, ◌&&◌, ◌||◌, List, [], ◌∷◌, ℕ, suc, ltb, Float, Option, None, Some, Result, Ok, Err}
 use Rattle.std.specs.Float.{binary32}
 use Rattle.std.specs.Float.Ieee.{of_bits, le, eq}
 use Rattle.std.specs.Float.Ieee.Scale.{finite}
 use Rattle.types.specs.declared.shape.Vec2.{Vec2}
 use Rattle.float.specs.Values.{abs_of}
-use Rattle.stroke_check.specs.declared.Offender.{Offender}
-use Rattle.stroke_check.specs.declared.Offender.TheVariants.{None, Found}
-use Rattle.stroke_check.specs.declared.Acceptance.{Acceptance}
-use Rattle.stroke_check.specs.declared.Acceptance.TheVariants.{Accepted, Refused, RefusedAt}
+use Rattle.types.specs.declared.refusal.Refusal.{Refusal}
+use Rattle.types.specs.declared.refusal.Refusal.TheVariants.{SameEnds, Coordinate, Size, NotFinite}
+use Rattle.types.specs.declared.refusal.RefusalAt.{RefusalAt}
+use Rattle.types.specs.Refusal.{refusal_at, nowhere}
 
 -- an image side above 16,384
 unfoldable pub sides_too_large_of : ℕ → ℕ → Bool
@@ -22,17 +22,17 @@ limit = of_bits binary32 0x4780_0000
 unfoldable pub within_limit_of : Float → Bool
 within_limit_of x = le (abs_of x) limit
 
--- the refusal of a coordinate that is not within the limit: 3 if it is finite, and else 15
-unfoldable pub number_of : Float → ℕ
-number_of x = cond (finite x) 3 15
+-- the refusal of a coordinate that is not within the limit
+unfoldable pub refusal_of : Float → Refusal
+refusal_of x = cond (finite x) Coordinate NotFinite
 
 -- the first coordinate that is not within the limit, places counted from `at`
-unfoldable pub offender_from : ℕ → List Float → Offender
+unfoldable pub offender_from : ℕ → List Float → Option RefusalAt
 offender_from at [] = None
-offender_from at (x ∷ xs) = cond (within_limit_of x) (offender_from (suc at) xs) (Found (number_of x) at)
+offender_from at (x ∷ xs) = cond (within_limit_of x) (offender_from (suc at) xs) (Some (refusal_at (refusal_of x) at))
 
--- its number and its place, from 0 on, decided together
-abbrev pub first_offender_of : List Float → Offender
+-- its refusal and its place, from 0 on, decided together
+abbrev pub first_offender_of : List Float → Option RefusalAt
 first_offender_of xs = offender_from 0 xs
 
 -- in the order of the arguments
@@ -45,11 +45,14 @@ same_ends_of p q = eq p.x q.x && eq p.y q.y
 
 -- ---- the tests in their order
 
--- a coordinate that offends is refused, by `refuse` with its number and its place, and else r is the outcome
-unfoldable pub unless_offender : {A : Type 0} → (ℕ → ℕ → A) → Offender → A → A
-unless_offender refuse (Found number place) r = refuse number place
-unless_offender refuse None r = r
+-- a coordinate that offends is refused, and else r is the outcome
+unfoldable pub unless_offender : {A : Type 0} → Option RefusalAt → Result A RefusalAt → Result A RefusalAt
+unless_offender (Some offender) r = Err offender
+unless_offender None r = r
 
 -- the sides of an image w by h, then the coordinates of the ends p and q, then whether the ends are equal
-unfoldable pub accept_of : ℕ → ℕ → Vec2 → Vec2 → Acceptance
-accept_of w h p q = cond (sides_too_large_of w h) (Refused 4) (unless_offender RefusedAt (first_offender_of (coordinates p q)) (cond (same_ends_of p q) (Refused 2) Accepted))
+unfoldable pub accept_of : ℕ → ℕ → Vec2 → Vec2 → Result Unit RefusalAt
+accept_of w h p q =
+    cond (sides_too_large_of w h)
+    (Err (nowhere Size))
+    (unless_offender (first_offender_of (coordinates p q)) (cond (same_ends_of p q) (Err (nowhere SameEnds)) (Ok tt)))

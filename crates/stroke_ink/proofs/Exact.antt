@@ -5,8 +5,8 @@ use mathlib.Core.Logic.{inl, inr}
 use lib.Ieee.{Float, binary32, lt, le, eq, is_nan, of_bits}
 use lib.Ieee.Bits.{of_bits-fits}
 use Rattle.types.specs.declared.shape.Vec2.{Vec2}
-use Rattle.types.specs.declared.answer.Interval.{Interval}
-use Rattle.types.specs.declared.answer.Interval.TheVariants.{Miss, Hit}
+use Rattle.slabs.specs.declared.Interval.{Interval}
+use Rattle.slabs.specs.declared.Interval.TheVariants.{Miss, Hit}
 use Rattle.float.specs.Rounded.{+0, one}
 use Rattle.float.specs.Values.{min_of, max_of}
 use Rattle.float.proofs.MinMax.{minimum_picks, maximum_picks}

@@ -8,8 +8,8 @@ use lib.Ieee.Bits.{of_bits-fits}
 use lib.Ieee.Fits.{neg-fits}
 use Rattle.types.specs.declared.shape.Vec2.{Vec2}
 use Rattle.types.specs.declared.shape.Aabb2.{Aabb2}
-use Rattle.types.specs.declared.answer.Interval.{Interval}
-use Rattle.types.specs.declared.answer.Interval.TheVariants.{Miss, Hit}
+use Rattle.slabs.specs.declared.Interval.{Interval}
+use Rattle.slabs.specs.declared.Interval.TheVariants.{Miss, Hit}
 use Rattle.float.specs.Rounded.{◌⊖◌, +0, one}
 use Rattle.float.proofs.Order.{lt_not, lt_one_way}
 use Rattle.float.proofs.Tests.{either, or_true}

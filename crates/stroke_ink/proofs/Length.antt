@@ -15,8 +15,8 @@ use lib.Ieee.Exact.{HasValue, round_exact}
 use lib.Ieee.Back.{round_whole}
 use lib.Ieee.Scale.{finite}
 use Rattle.types.specs.declared.shape.Vec2.{Vec2}
-use Rattle.types.specs.declared.answer.Interval.{Interval}
-use Rattle.types.specs.declared.answer.Interval.TheVariants.{Miss, Hit}
+use Rattle.slabs.specs.declared.Interval.{Interval}
+use Rattle.slabs.specs.declared.Interval.TheVariants.{Miss, Hit}
 use Rattle.float.specs.Rounded.{◌⊕◌, ◌⊖◌, ◌⊗◌, +0, one}
 use Rattle.float.specs.Values.{min_of, max_of}
 use Rattle.float.proofs.Order.{lt_not}

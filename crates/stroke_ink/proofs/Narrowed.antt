@@ -9,8 +9,8 @@ use lib.IntN.{ℤ}
 use lib.Dec.{T}
 use lib.Ieee.{Float, nan, inf, fin, binary32, fits, lt, ne, eq, is_nan, of_bits}
 use lib.Ieee.Fits.{div-fits}
-use Rattle.types.specs.declared.answer.Interval.{Interval}
-use Rattle.types.specs.declared.answer.Interval.TheVariants.{Miss, Hit}
+use Rattle.slabs.specs.declared.Interval.{Interval}
+use Rattle.slabs.specs.declared.Interval.TheVariants.{Miss, Hit}
 use Rattle.float.specs.Rounded.{◌⊖◌, +0, one}
 use Rattle.float.specs.Values.{min_of, max_of}
 use Rattle.slabs.specs.declared.Slab.{Slab}

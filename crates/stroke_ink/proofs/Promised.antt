@@ -6,19 +6,16 @@ use native.Mathlib.Omega.{arith}
 use lib.Ieee.{Float, le}
 use Rattle.types.specs.declared.shape.Vec2.{Vec2}
 use Rattle.types.specs.declared.shape.Aabb2.{Aabb2}
-use Rattle.types.specs.declared.answer.Ink.TheVariants.{Some, Refused, RefusedAt}
-use Rattle.stroke_check.specs.declared.Offender.TheVariants.{None}
+use Rattle.std.specs.Prelude.{None, Ok, Err}
+use Rattle.types.specs.declared.refusal.RefusalAt.{RefusalAt}
 use Rattle.stroke_check.specs.Check.{first_offender_of, coordinates}
 use Rattle.stroke_check.proofs.Accepted.{AreFloats, bounded}
 use Rattle.stroke_ink.specs.Ink.{drawn_of, ink_of}
 use Rattle.stroke_ink.specs.Promise.{Inked, Promise}
 use Rattle.stroke_ink.proofs.Laws.{is_length, whole, missed, outside, no_length}
 
-pub refused : {p q : Vec2} {b : Aabb2} {n : ℕ} → Refused n ≡ ink_of p q b → Promise p q b (Refused n)
+pub refused : {p q : Vec2} {b : Aabb2} {at : RefusalAt} → Err at ≡ ink_of p q b → Promise p q b (Err at)
 refused e = record { answers = e; inked = λ x z. absurd (let y : ◌≡◌ {A = ℕ} 0 1 = cc in let o : ⊥ = omega arith in o) }
-
-pub refused_at : {p q : Vec2} {b : Aabb2} {n place : ℕ} → RefusedAt n place ≡ ink_of p q b → Promise p q b (RefusedAt n place)
-refused_at e = record { answers = e; inked = λ x z. absurd (let y : ◌≡◌ {A = ℕ} 0 1 = cc in let o : ⊥ = omega arith in o) }
 
 -- a stroke that does not offend, and a box in order
 module _ {p q : Vec2} {b : Aabb2} (f : AreFloats p q) (accepted : first_offender_of (coordinates p q) ≡ None)
@@ -36,5 +33,5 @@ module _ {p q : Vec2} {b : Aabb2} (f : AreFloats p q) (accepted : first_offender
         no_length = no_length w b;
       }
 
-  pub measured : {x : Float} → x ≡ drawn_of p q b → Some x ≡ ink_of p q b → Promise p q b (Some x)
+  pub measured : {x : Float} → x ≡ drawn_of p q b → Ok x ≡ ink_of p q b → Promise p q b (Ok x)
   measured {x} d e = record { answers = e; inked = λ y z. let same : x ≡ y = cc in subst (Inked p q b) (sym d ∙ same) inked }

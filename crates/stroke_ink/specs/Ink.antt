@@ -1,12 +1,13 @@
 -- The ink that a stroke leaves in a box, in the words of document 02's seventh request, each operation rounded. Definitions only.
-use Rattle.std.specs.Prelude.{cond, ◌&&◌, Float}
+use Rattle.std.specs.Prelude.{cond, ◌&&◌, Float, Result, Ok, Err}
 use Rattle.std.specs.Float.Ieee.{le}
 use Rattle.types.specs.declared.shape.Vec2.{Vec2}
 use Rattle.types.specs.declared.shape.Aabb2.{Aabb2}
-use Rattle.types.specs.declared.answer.Interval.{Interval}
-use Rattle.types.specs.declared.answer.Interval.TheVariants.{Miss, Hit}
-use Rattle.types.specs.declared.answer.Ink.{Ink}
-use Rattle.types.specs.declared.answer.Ink.TheVariants.{Some, Refused, RefusedAt}
+use Rattle.types.specs.declared.refusal.Refusal.TheVariants.{Order}
+use Rattle.types.specs.declared.refusal.RefusalAt.{RefusalAt}
+use Rattle.types.specs.Refusal.{nowhere}
+use Rattle.slabs.specs.declared.Interval.{Interval}
+use Rattle.slabs.specs.declared.Interval.TheVariants.{Miss, Hit}
 use Rattle.float.specs.Rounded.{+0, one}
 use Rattle.float.specs.Values.{min_of, max_of}
 use Rattle.vec2.specs.Values.{sub_of}
@@ -32,7 +33,7 @@ unfoldable pub drawn_of : Vec2 → Vec2 → Aabb2 → Float
 drawn_of p q b = length_over_of p q (bounded_of (clipped_of p q b))
 
 -- "first 15 and 3 as in the walk, then 5 in x and y"
-unfoldable pub ink_of : Vec2 → Vec2 → Aabb2 → Ink
+unfoldable pub ink_of : Vec2 → Vec2 → Aabb2 → Result Float RefusalAt
 ink_of p q b =
-    unless_offender RefusedAt (first_offender_of (coordinates p q))
-    (cond (le b.min_x b.max_x && le b.min_y b.max_y) (Some (drawn_of p q b)) (Refused 5))
+    unless_offender (first_offender_of (coordinates p q))
+    (cond (le b.min_x b.max_x && le b.min_y b.max_y) (Ok (drawn_of p q b)) (Err (nowhere Order)))

@@ -1,12 +1,11 @@
 -- The contract of `ink`: its value, that it is finite and not below zero, and where it is the stroke's own `length`, or 0. Definitions only.
-use Rattle.std.specs.Prelude.{◌≡◌, Bool, true, ◌&&◌, ◌||◌, Float}
+use Rattle.std.specs.Prelude.{◌≡◌, Bool, true, ◌&&◌, ◌||◌, Float, Result, Ok}
 use Rattle.std.specs.Float.Ieee.{lt, le}
 use Rattle.std.specs.Float.Ieee.Scale.{finite}
 use Rattle.types.specs.declared.shape.Vec2.{Vec2}
 use Rattle.types.specs.declared.shape.Aabb2.{Aabb2}
-use Rattle.types.specs.declared.answer.Interval.TheVariants.{Miss}
-use Rattle.types.specs.declared.answer.Ink.{Ink}
-use Rattle.types.specs.declared.answer.Ink.TheVariants.{Some}
+use Rattle.types.specs.declared.refusal.RefusalAt.{RefusalAt}
+use Rattle.slabs.specs.declared.Interval.TheVariants.{Miss}
 use Rattle.float.specs.Rounded.{+0}
 use Rattle.edge2_measure.specs.Measure.{length_of}
 use Rattle.aabb.specs.Inside.{is_include_point_of}
@@ -33,6 +32,6 @@ pub record Inked (p q : Vec2) (b : Aabb2) (x : Float) : Type 0 where
   pub outside : beyond_an_edge b p q ≡ true → x ≡ +0
   pub no_length : same_ends_of p q ≡ true → x ≡ +0
 
-pub record Promise (p q : Vec2) (b : Aabb2) (r : Ink) : Type 0 where
+pub record Promise (p q : Vec2) (b : Aabb2) (r : Result Float RefusalAt) : Type 0 where
   pub answers : r ≡ ink_of p q b
-  pub inked : (x : Float) → r ≡ Some x → Inked p q b x
+  pub inked : (x : Float) → r ≡ Ok x → Inked p q b x

@@ -5,20 +5,23 @@ ghost use Rattle.std.specs.Prelude.{◌≡◌};
 ghost use Rattle.stroke_ink.specs.Ink.{bounded_of, length_over_of, drawn_of};
 ghost use Rattle.stroke_ink.specs.Promise.{Promise};
 
-use stroke_check::{Offender, first_offender};
-use types::{Aabb2, Ink, Interval, Vec2};
+use slabs::Interval;
+use stroke_check::first_offender;
+use types::{Aabb2, Refusal, RefusalAt, Vec2};
 
 // What an interval has of the numbers from 0 to 1. A miss stays one.
 #[tactic(auto, unfolding(crate::specs::Ink::bounded_of))]
 fn bounded(i: Interval) -> Interval
     ensures { result ≡ bounded_of i }
 {
-    match i {
-        Interval::Miss => Interval::Miss,
-        Interval::Hit(tmin, tmax) => {
-            slabs::ordered(Interval::Hit(float::max(tmin, 0.0), float::min(tmax, 1.0)))
-        }
-    }
+    let Interval::Hit { tmin, tmax } = i else {
+        return Interval::Miss;
+    };
+    let inside = Interval::Hit {
+        tmin: float::max(tmin, 0.0),
+        tmax: float::min(tmax, 1.0),
+    };
+    inside.ordered()
 }
 
 // The length of the stroke over an interval of ratios, and 0 over none.
@@ -27,14 +30,12 @@ fn bounded(i: Interval) -> Interval
 fn length_over(p0: Vec2, p1: Vec2, i: Interval) -> f32
     ensures { result ≡ length_over_of p0 p1 i }
 {
-    match i {
-        Interval::Miss => 0.0,
-        Interval::Hit(from, to) => {
-            let s = edge2_measure::position_from_ratio(p0, p1, from);
-            let e = edge2_measure::position_from_ratio(p0, p1, to);
-            root_guess::sqrt(edge2_measure::squared_length(s, e))
-        }
-    }
+    let Interval::Hit { tmin, tmax } = i else {
+        return 0.0;
+    };
+    let from = edge2_measure::position_from_ratio(p0, p1, tmin);
+    let to = edge2_measure::position_from_ratio(p0, p1, tmax);
+    root_guess::sqrt(edge2_measure::squared_length(from, to))
 }
 
 // The length in the box, by the clip of the stroke's line.
@@ -42,24 +43,22 @@ fn length_over(p0: Vec2, p1: Vec2, i: Interval) -> f32
 fn drawn(p0: Vec2, p1: Vec2, b: Aabb2) -> f32
     ensures { result ≡ drawn_of p0 p1 b }
 {
-    let direction = vec2::sub(p1, p0);
+    let direction = p1 - p0;
     let inside = aabb::intersections_against_line(b, p0, direction);
     length_over(p0, p1, bounded(inside))
 }
 
 // The ink that the stroke from p0 to p1 leaves in the box. A coordinate that offends is refused as in the walk, then a box that is not ordered
 // in x, then in y. Equal ends are not refused.
-#[tactic(auto, using(crate::proofs::Promised::refused, crate::proofs::Promised::refused_at), unfolding(crate::specs::Ink::ink_of, stroke_check::specs::Check::unless_offender))]
-pub fn ink(p0: Vec2, p1: Vec2, b: Aabb2) -> Ink
+#[tactic(auto, using(crate::proofs::Promised::refused), unfolding(crate::specs::Ink::ink_of, stroke_check::specs::Check::unless_offender))]
+pub fn ink(p0: Vec2, p1: Vec2, b: Aabb2) -> Result<f32, RefusalAt>
     ensures { Promise p0 p1 b result }
 {
-    if let Offender::Found { number, place } = first_offender(&[p0.x, p0.y, p1.x, p1.y]) {
-        return Ink::RefusedAt { number, place };
+    if let Some(offender) = first_offender(&[p0.x, p0.y, p1.x, p1.y]) {
+        return Err(offender);
     }
-    if b.min_x <= b.max_x {
-        if b.min_y <= b.max_y {
-            return Ink::Some(drawn(p0, p1, b));
-        }
+    if b.min_x <= b.max_x && b.min_y <= b.max_y {
+        return Ok(drawn(p0, p1, b));
     }
-    Ink::Refused(types::refusal::ORDER)
+    Err(Refusal::Order.into())
 }

@@ -1,13 +1,15 @@
 -- The decimal digits of a number, and how many there are.
-use mathlib.Core.Path.{◌≡◌, refl, ap, ◌∙◌}
+use mathlib.Core.Path.{◌≡◌, refl, sym, ap, ◌∙◌}
 use mathlib.Core.Bool.{Bool, true, false, cond}
 use mathlib.Core.List.{List, [], ◌∷◌, ◌++◌}
-use Prim.Native.Nat.{ℕ, zero, suc, ◌*◌, ◌/◌, ◌%◌, ◌<◌, ◌≤◌}
+use Prim.Native.Nat.{ℕ, zero, suc, ◌+◌, ◌*◌, ◌/◌, ◌%◌, ◌^◌, ◌<◌, ◌≤◌}
 use native.Mathlib.Decide.{dec_le}
 use native.Mathlib.Omega.{arith}
 use lib.Dec.{ltb}
 use lib.ListN.{length, length-append}
 use borrow.Author.Tests.{lt-ltb, le-ltb, ltb-false}
+use Rattle.std.specs.Fmt as fmt
+use Rattle.std.proofs.lemmas.Fmt.{decimal_by_steps}
 use Rattle.text.specs.Numbers.{digit, decimal_by, decimal}
 
 cut : (n : ℕ) (s t : List ℕ) (b : Bool) → (b ≡ false → s ≡ t) → cond b (digit n ∷ []) (s ++ (digit (n % 10) ∷ [])) ≡ cond b (digit n ∷ []) (t ++ (digit (n % 10) ∷ []))
@@ -48,3 +50,12 @@ decimal_4 = longer 1000 3 (longer 100 2 (longer 10 1 decimal_1))
 
 pub decimal_5 : (n : ℕ) → n < 100000 → length (decimal n) ≤ 5
 decimal_5 = longer 10000 4 decimal_4
+
+-- std's decimal digits are these
+pub decimal_is : (n : ℕ) → n < 2 ^ 64 → fmt.decimal n ≡ decimal n
+decimal_is = decimal_by_steps (λ (n : ℕ) (ds : List ℕ). ds ≡ decimal n)
+    (λ n h. ap (λ (d : ℕ). d ∷ []) (sym (digit_is n h)) ∙ sym (decimal_one n h))
+    λ n ds h e. ap (λ (d : ℕ). ds ++ (d ∷ [])) (sym (digit_is (n % 10) (omega arith))) ∙ ap (λ (t : List ℕ). t ++ (digit (n % 10) ∷ [])) e ∙ sym (decimal_more n h)
+  where
+    digit_is : (d : ℕ) → d < 10 → digit d ≡ 48 + d
+    digit_is d h = rw (lt-ltb d 10 h)

@@ -2,12 +2,13 @@
 use mathlib.Core.Path.{◌≡◌, refl, sym, ap, ◌∙◌, subst}
 use mathlib.Core.Bool.{false}
 use mathlib.Core.List.{List, [], ◌∷◌, ◌++◌}
-use Prim.Native.Nat.{ℕ, ◌+◌, ◌*◌, ◌≤◌, ◌<◌}
-use native.Mathlib.Nat.{mul-le-mul, mul-zero, zero-mul}
+use Prim.Native.Nat.{ℕ, ◌*◌, ◌≤◌, ◌<◌}
+use native.Mathlib.Nat.{mul-le-mul}
 use native.Mathlib.Omega.{arith}
 use lib.ListN.{length, drop}
 use Rattle.types.specs.declared.shape.Aabb2.{Aabb2}
-use Rattle.types.specs.declared.answer.Listed.TheVariants.{Count, Refused}
+use Rattle.std.specs.Prelude.{Ok, Err}
+use Rattle.types.specs.declared.refusal.Refusal.TheVariants.{Room}
 use Rattle.lists.specs.Lent.{written}
 use Rattle.tiles.specs.Sheet.{Sheet}
 use Rattle.tiles.specs.Tiles.{first_column, column_count, first_row, row_count, rows, tiles_of}
@@ -37,28 +38,20 @@ module _ {s : Sheet} {b : Aabb2} {c k r n : ℕ} (f : Found s b c k r n) where
   pub count_le : n * k ≤ 268435456
   count_le = let d = sides s f.sheet_good in mul-le-mul {n₂ = 16384} {m₂ = 16384} (omega arith) (omega arith)
 
-  -- where there is a tile, its column and its row are on the sheet
-  pub on_sheet : (n * k ≡ 0 → ⊥) → (c + k ≤ s.width) × (s.width ≤ 16384) × (r + n ≤ 16384)
-  on_sheet z =
-      let d = sides s f.sheet_good in
-      let K : k ≡ 0 → ⊥ = λ (e : k ≡ 0). z (ap (λ (x : ℕ). n * x) e ∙ mul-zero n) in
-      let N : n ≡ 0 → ⊥ = λ (e : n ≡ 0). z (ap (λ (x : ℕ). x * k) e ∙ zero-mul k) in
-      (omega arith, d.width_high, omega arith)
-
   module _ (l : List ℕ) where
-    pub too_short : length l < n * k → Promise s b l (Refused 1) l
+    pub too_short : length l < n * k → Promise s b l (Err Room) l
     too_short h = refused_room s b l f.sheet_good f.box_good (rw count_is h)
 
-    pub filled : (l' : List ℕ) → Floats b → n * k ≤ length l → l' ≡ rows s.width c k r n ++ drop (n * k) l → Promise s b l (Count (n * k)) l'
+    pub filled : (l' : List ℕ) → Floats b → n * k ≤ length l → l' ≡ rows s.width c k r n ++ drop (n * k) l → Promise s b l (Ok (n * k)) l'
     unfolding written
     filled l' t h e = rw (e, rows_are, ← count_is) (listed s b l f.sheet_good f.box_good t (rw count_is h))
 
     -- with no tile there is nothing to write
-    pub empty : Floats b → n * k ≡ 0 → Promise s b l (Count 0) l
+    pub empty : Floats b → n * k ≡ 0 → Promise s b l (Ok 0) l
     empty t z =
         let ts = rows s.width c k r n in
         let same : l ≡ ts ++ drop (n * k) l = nil ts (length_rows s.width c k r n ∙ z) ∙ ap (λ (x : ℕ). ts ++ drop x l) (sym z) in
-        subst (λ (x : ℕ). Promise s b l (Count x) l) z (filled l t (omega arith) same)
+        subst (λ (x : ℕ). Promise s b l (Ok x) l) z (filled l t (omega arith) same)
       where
         nil : (x : List ℕ) → length x ≡ 0 → l ≡ x ++ l
         nil [] e = refl

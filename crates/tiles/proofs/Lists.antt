@@ -1,12 +1,13 @@
 -- Lists into which runs of numbers are written, one after another.
 use mathlib.Core.Path.{◌≡◌, refl, sym, ap, ◌∙◌}
-use mathlib.Core.List.{List, [], ◌∷◌, ◌++◌, append_assoc}
-use Prim.Native.Nat.{ℕ, zero, suc, ◌+◌, ◌*◌, ◌<◌}
-use native.Mathlib.Nat.{add-zero, add-suc, suc-add, suc-mul, zero-mul}
+use mathlib.Core.List.{List, [], ◌∷◌, ◌++◌, append_assoc, append-nil}
+use Prim.Native.Nat.{ℕ, zero, suc, ◌+◌, ◌-◌, ◌*◌, ◌<◌, ◌≤◌}
+use native.Mathlib.Nat.{le_trans, le_of_eq, mul-le-mul_right, add-zero, add-suc, suc-add, suc-mul, zero-mul}
 use native.Mathlib.Numerals.{add-one}
 use native.Mathlib.Omega.{arith}
-use lib.ListN.{length, get_or, take, drop, set, length-append}
-use lib.Seq.{drop-cons, set_at, length-take-le, take_at, drop-append-add, drop-drop}
+use lib.ListN.{length, drop, set, length-append, length-drop, drop_of_length-le}
+use borrow.Rule.Slice.PartMut.{put_mid, mid_of, mid_len}
+use Rattle.lists.proofs.Fill.{store_all, store_next, part_stored}
 use Rattle.tiles.specs.Tiles.{run, rows}
 
 -- ---- one run
@@ -15,27 +16,21 @@ pub length_run : (a k : ℕ) → length (run a k) ≡ k
 length_run a zero = refl
 length_run a (suc k) = ap suc (length_run (suc a) k)
 
--- one number more at the end
-run_more : (a k : ℕ) (l : List ℕ) → run a k ++ ((a + k) ∷ l) ≡ run a (suc k) ++ l
-run_more a zero l = simp add-zero
-run_more a (suc k) l = ap (λ (t : List ℕ). a ∷ t) (rw (add-suc, ← suc-add) (run_more (suc a) k l))
+-- one number more behind it
+run_suc : (a k : ℕ) → run a (suc k) ≡ run a k ++ ((a + k) ∷ [])
+run_suc a zero = simp add-zero
+run_suc a (suc k) = ap (λ (t : List ℕ). a ∷ t) (run_suc (suc a) k ∙ simp (add-suc, suc-add))
 
--- l with the run of k numbers from a on, written from entry `at` on
-abbrev pub pasted : List ℕ → ℕ → ℕ → ℕ → List ℕ
-pasted l at a k = take at l ++ (run a k ++ drop (at + k) l)
+-- in l, whose first k entries are a run, the next number is stored
+pub run_more : (l : List ℕ) (a k : ℕ) → k < length l → set (run a k ++ drop k l) k (a + k) ≡ run a (k + 1) ++ drop (k + 1) l
+run_more l a k h =
+    store_next (run a k) l k (a + k) (length_run a k) h
+    ∙ ap (λ (t : List ℕ). t ++ drop (suc k) l) (sym (run_suc a k))
+    ∙ ap (λ (n : ℕ). run a n ++ drop n l) (sym (add-one k))
 
-pub pasted_suc : (l : List ℕ) (at a j : ℕ) → at + j < length l → set (pasted l at a j) (at + j) (a + j) ≡ pasted l at a (j + 1)
-pasted_suc l at a j h =
-    let y = get_or l (at + j) 0 in
-    let ys = drop (suc (at + j)) l in
-    let p = take at l ++ run a j in
-    let n : length p ≡ at + j = simp (length-append, length_run, length-take-le at l (omega arith)) in
-    ap (λ (t : List ℕ). set (take at l ++ (run a j ++ t)) (at + j) (a + j)) (drop-cons l (at + j) 0 h)
-    ∙ ap (λ (t : List ℕ). set t (at + j) (a + j)) (sym (append_assoc (take at l) (run a j) (y ∷ ys)))
-    ∙ set_at p y ys (a + j) (at + j) n
-    ∙ append_assoc (take at l) (run a j) ((a + j) ∷ ys)
-    ∙ ap (λ (t : List ℕ). take at l ++ t) (run_more a j ys)
-    ∙ simp (add-one, add-suc)
+-- in all of l
+pub run_whole : (l : List ℕ) (a k : ℕ) → k ≡ length l → run a k ++ drop k l ≡ run a (length l)
+run_whole l a k e = rw (e, drop_of_length-le l {i = length l} (omega arith)) (append-nil (run a (length l)))
 
 -- ---- rows of runs
 
@@ -45,22 +40,29 @@ length_rows w c k r (suc n) = let e : suc n * k ≡ n * k + k = suc-mul n k in s
 
 rows_snoc : (w c k r n : ℕ) → rows w c k r (suc n) ≡ rows w c k r n ++ run ((r + n) * w + c) k
 rows_snoc w c k r zero = append-nil (run (r * w + c) k) ∙ simp add-zero
-  where
-    append-nil : (l : List ℕ) → l ++ [] ≡ l
-    append-nil [] = refl
-    append-nil (x ∷ l) = ap (λ (t : List ℕ). x ∷ t) (append-nil l)
 rows_snoc w c k r (suc n) =
     ap (λ (t : List ℕ). run (r * w + c) k ++ t) (rows_snoc w c k (suc r) n) ∙ simp (append_assoc, suc-add, add-suc)
 
--- after n rows, the next is pasted behind them
-pub rows_suc : (l : List ℕ) (w c k r n : ℕ) → pasted (rows w c k r n ++ drop (n * k) l) (n * k) ((r + n) * w + c) k ≡ rows w c k r (n + 1) ++ drop ((n + 1) * k) l
-rows_suc l w c k r n =
-    let x = rows w c k r n in
-    let e : length x ≡ n * k = length_rows w c k r n in
-    let a = (r + n) * w + c in
-    ap (λ (t : List ℕ). t ++ (run a k ++ drop (n * k + k) (x ++ drop (n * k) l))) (take_at x (drop (n * k) l) (n * k) e)
-    ∙ ap (λ (t : List ℕ). x ++ (run a k ++ t)) (rest x (n * k) e)
-    ∙ simp (add-one, suc-mul n k, rows_snoc w c k r n, append_assoc)
-  where
-    rest : (x : List ℕ) (m : ℕ) → length x ≡ m → drop (m + k) (x ++ drop m l) ≡ drop (m + k) l
-    rest x m e = ap (λ (y : ℕ). drop (y + k) (x ++ drop m l)) (sym e) ∙ drop-append-add x (drop m l) k ∙ drop-drop k m l
+next_row : (l : List ℕ) (w c k r n m : ℕ) → m ≡ k → n * k + k ≤ length l
+    → put_mid (n * k) m (rows w c k r n ++ drop (n * k) l) (run ((r + n) * w + c) k) ≡ rows w c k r (n + 1) ++ drop ((n + 1) * k) l
+next_row l w c k r n m e h =
+    let es = rows w c k r n in
+    let vs = run ((r + n) * w + c) k in
+    let size = length_run ((r + n) * w + c) k in
+    let done = length_rows w c k r n in
+    let longer : n * k + k ≡ (n + 1) * k = sym (ap (λ (x : ℕ). x * k) (add-one n) ∙ suc-mul n k) in
+    part_stored (n * k) m (es ++ drop (n * k) l) vs (e ∙ sym size) (omega (arith, h, size, done, length-append es (drop (n * k) l), length-drop (n * k) l))
+    ∙ store_all vs es l (n * k) done (omega (arith, h, size))
+    ∙ ap (λ (x : ℕ). (es ++ vs) ++ drop x l) (ap (λ (x : ℕ). n * k + x) size ∙ longer)
+    ∙ ap (λ (t : List ℕ). t ++ drop ((n + 1) * k) l) (sym (ap (rows w c k r) (add-one n) ∙ rows_snoc w c k r n))
+
+-- l is what the list held, l' has n of the m rows in it, and t is the next row, which is written into l' behind them
+pub rows_more : (l l' t : List ℕ) (w c k r n m : ℕ) → n < m → m * k ≤ length l → l' ≡ rows w c k r n ++ drop (n * k) l
+    → t ≡ run ((r + n) * w + c) (length (mid_of (n * k) (n * k + k - n * k) l'))
+    → put_mid (n * k) (n * k + k - n * k) l' t ≡ rows w c k r (n + 1) ++ drop ((n + 1) * k) l
+rows_more l l' t w c k r n m h room before row =
+    let fits : n * k + k ≤ length l = le_trans (le_of_eq (sym (suc-mul n k))) (le_trans (mul-le-mul_right k h) room) in
+    let same : length l' ≡ length l =
+    ap length before ∙ omega (arith, fits, length_rows w c k r n, length-append (rows w c k r n) (drop (n * k) l), length-drop (n * k) l) in
+    let part : length (mid_of (n * k) (n * k + k - n * k) l') ≡ k = mid_len (n * k) (n * k + k) l' (omega (arith, fits, same)) ∙ omega arith in
+    rw (row, part, before) (next_row l w c k r n (n * k + k - n * k) (omega arith) fits)

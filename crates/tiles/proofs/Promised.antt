@@ -9,7 +9,8 @@ use lib.Signed.{◌≤ℤ◌}
 use lib.Ieee.{Float, binary32, fits}
 use borrow.Author.Tests.{lt-ltb, le-ltb}
 use Rattle.types.specs.declared.shape.Aabb2.{Aabb2}
-use Rattle.types.specs.declared.answer.Listed.TheVariants.{Count, Refused}
+use Rattle.std.specs.Prelude.{Ok, Err}
+use Rattle.types.specs.declared.refusal.Refusal.TheVariants.{Room, Coordinate, Size}
 use Rattle.float.specs.Units.{units_of}
 use Rattle.lists.specs.Lent.{written, fitted, leaves}
 use Rattle.lists.proofs.Lent.{no_count, same_count}
@@ -30,18 +31,18 @@ pub record Floats (b : Aabb2) : Type 0 where
   pub max_y : fits binary32 b.max_y ≡ true
 
 module _ (s : Sheet) (b : Aabb2) (l : List ℕ) where
-  pub refused_sheet : bad_sheet_of s ≡ true → Promise s b l (Refused 4) l
+  pub refused_sheet : bad_sheet_of s ≡ true → Promise s b l (Err Size) l
   unfolding overlapping_tiles_of leaves
-  refused_sheet e = record { answers = simp e; leaves = refl; smallest = λ n z. no_count 4 n z }
+  refused_sheet e = record { answers = simp e; leaves = refl; smallest = λ n z. no_count Size n z }
 
-  pub refused_box : bad_sheet_of s ≡ false → bad_box_of b ≡ true → Promise s b l (Refused 3) l
+  pub refused_box : bad_sheet_of s ≡ false → bad_box_of b ≡ true → Promise s b l (Err Coordinate) l
   unfolding overlapping_tiles_of leaves
-  refused_box e f = record { answers = simp (e, f); leaves = refl; smallest = λ n z. no_count 3 n z }
+  refused_box e f = record { answers = simp (e, f); leaves = refl; smallest = λ n z. no_count Coordinate n z }
 
   module _ (e : bad_sheet_of s ≡ false) (f : bad_box_of b ≡ false) where
-    pub refused_room : length l < length (tiles_of s b) → Promise s b l (Refused 1) l
+    pub refused_room : length l < length (tiles_of s b) → Promise s b l (Err Room) l
     unfolding overlapping_tiles_of fitted written leaves
-    refused_room h = record { answers = simp (e, f, lt-ltb (length l) (length (tiles_of s b)) h); leaves = refl; smallest = λ n z. no_count 1 n z }
+    refused_room h = record { answers = simp (e, f, lt-ltb (length l) (length (tiles_of s b)) h); leaves = refl; smallest = λ n z. no_count Room n z }
 
     axis : {low high : Float} → Taken low → Taken high → NotTiny low → NotTiny high → units_of low ≤ℤ units_of high → Axis s.size low high
     axis tl th zl zh o = record {
@@ -61,7 +62,7 @@ module _ (s : Sheet) (b : Aabb2) (l : List ℕ) where
         (axis (taken b.min_x t.min_x c.min_x) (taken b.max_x t.max_x c.max_x) p.min_x_size p.max_x_size p.ordered_x)
         (axis (taken b.min_y t.min_y c.min_y) (taken b.max_y t.max_y c.max_y) p.min_y_size p.max_y_size p.ordered_y)
 
-    pub listed : Floats b → length (tiles_of s b) ≤ length l → Promise s b l (Count (length (tiles_of s b))) (written (tiles_of s b) l)
+    pub listed : Floats b → length (tiles_of s b) ≤ length l → Promise s b l (Ok (length (tiles_of s b))) (written (tiles_of s b) l)
     unfolding overlapping_tiles_of fitted written leaves
     listed t h =
         let ts = tiles_of s b in

@@ -1,10 +1,10 @@
 -- What `overlapping_tiles` returns. Quoted words are those of document 01's table of refusals.
 -- Definitions only.
-use Rattle.std.specs.Prelude.{Bool, not, ◌||◌, cond, ℕ, ◌*◌, ◌^◌, ltb, eqb, Float}
+use Rattle.std.specs.Prelude.{Bool, not, ◌||◌, cond, ℕ, ◌*◌, ◌^◌, ltb, eqb, Float, Result, Err}
 use Rattle.std.specs.Float.Ieee.Scale.{finite}
 use Rattle.types.specs.declared.shape.Aabb2.{Aabb2}
-use Rattle.types.specs.declared.answer.Listed.{Listed}
-use Rattle.types.specs.declared.answer.Listed.TheVariants.{Refused}
+use Rattle.types.specs.declared.refusal.Refusal.{Refusal}
+use Rattle.types.specs.declared.refusal.Refusal.TheVariants.{Room, Coordinate, Size}
 use Rattle.float.specs.Units.{in_units}
 use Rattle.lists.specs.Lent.{fitted}
 use Rattle.tiles.specs.Sheet.{Sheet}
@@ -25,5 +25,5 @@ abbrev pub bad_box_of : Aabb2 → Bool
 bad_box_of b = bad_coordinate_of b.min_x || bad_coordinate_of b.min_y || bad_coordinate_of b.max_x || bad_coordinate_of b.max_y
 
 -- the refusals "in this order", the last for a "list shorter than the tiles"; and otherwise how many tiles there are
-unfoldable pub overlapping_tiles_of : Sheet → Aabb2 → ℕ → Listed
-overlapping_tiles_of s b room = cond (bad_sheet_of s) (Refused 4) (cond (bad_box_of b) (Refused 3) (fitted (tiles_of s b) room))
+unfoldable pub overlapping_tiles_of : Sheet → Aabb2 → ℕ → Result ℕ Refusal
+overlapping_tiles_of s b room = cond (bad_sheet_of s) (Err Size) (cond (bad_box_of b) (Err Coordinate) (fitted Room (tiles_of s b) room))

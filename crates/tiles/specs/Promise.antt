@@ -1,8 +1,7 @@
 -- The contract of `overlapping_tiles`: its answer, the lent list afterwards, and demand 3. Definitions only.
-use Rattle.std.specs.Prelude.{◌≡◌, List, ℕ, length, take}
+use Rattle.std.specs.Prelude.{◌≡◌, List, ℕ, length, take, Result, Ok}
 use Rattle.types.specs.declared.shape.Aabb2.{Aabb2}
-use Rattle.types.specs.declared.answer.Listed.{Listed}
-use Rattle.types.specs.declared.answer.Listed.TheVariants.{Count}
+use Rattle.types.specs.declared.refusal.Refusal.{Refusal}
 use Rattle.lists.specs.Lent.{leaves}
 use Rattle.tiles.specs.Sheet.{Sheet}
 use Rattle.tiles.specs.Cover.{Premises, Smallest}
@@ -10,8 +9,8 @@ use Rattle.tiles.specs.Tiles.{tiles_of}
 use Rattle.tiles.specs.Answer.{overlapping_tiles_of}
 
 -- for the sheet s and the box b: l is the lent list, r is what the call returns, and l' is the list afterwards
-pub record Promise (s : Sheet) (b : Aabb2) (l : List ℕ) (r : Listed) (l' : List ℕ) : Type 0 where
+pub record Promise (s : Sheet) (b : Aabb2) (l : List ℕ) (r : Result ℕ Refusal) (l' : List ℕ) : Type 0 where
   pub answers : r ≡ overlapping_tiles_of s b (length l)
   pub leaves : l' ≡ leaves r (tiles_of s b) l
   -- demand 3, of "the lent list's first entries, as many as the count returned"
-  pub smallest : (n : ℕ) → r ≡ Count n → Premises b → Smallest s b n (take n l')
+  pub smallest : (n : ℕ) → r ≡ Ok n → Premises b → Smallest s b n (take n l')

@@ -1,36 +1,80 @@
-// The refusal numbers of documents 01 and 02, named once.
+// Why a routine refuses what it is given.
+ghost use Rattle.std.specs.Prelude.{◌≡◌};
 
-// A lent list is shorter than what is to be written.
-pub const ROOM: u32 = 1;
-// Both ends of a stroke are equal.
-pub const SAME_ENDS: u32 = 2;
-// A coordinate is above its limit in size, or for tiles not finite.
-pub const COORDINATE: u32 = 3;
-// A side of an image or a sheet is too large, or a tile size is 0 or too large.
-pub const SIZE: u32 = 4;
-// A range is not ordered: low is not at most high.
-pub const ORDER: u32 = 5;
-// A radius is not at least 0.
-pub const RADIUS: u32 = 6;
-// A length to the turned box is NaN.
-pub const NAN_LENGTH: u32 = 7;
-// A corner has no image.
-pub const NO_IMAGE: u32 = 8;
-// An index is not below the number of boxes.
-pub const INDEX: u32 = 9;
-// A hatch list does not begin with its mark.
-pub const MARK: u32 = 10;
-// A hatch list has an unknown version.
-pub const VERSION: u32 = 11;
-// A hatch list has too many records.
-pub const COUNT: u32 = 12;
-// The bytes of a hatch list are too few or too many.
-pub const LENGTH: u32 = 13;
-// A list of lines is not a multiple of four floats.
-pub const LINES: u32 = 14;
-// A coordinate of a stroke is not finite.
-pub const NOT_FINITE: u32 = 15;
-// A corner's projection is NaN on an axis that is reached, whether it separates the boxes or not.
-pub const NAN_PROJECTION: u32 = 16;
-// The number of a corner is above 7.
-pub const CORNER: u32 = 17;
+use thiserror::Error;
+
+#[derive(Clone, Copy, Debug, PartialEq, Eq, Error)]
+pub enum Refusal {
+    #[error("a lent list is shorter than what is to be written")]
+    Room = 1,
+    #[error("both ends of a stroke are equal")]
+    SameEnds = 2,
+    #[error("a coordinate is above its limit in size, or for tiles not finite")]
+    Coordinate = 3,
+    #[error("a side of an image or a sheet is too large, or a tile size is 0 or too large")]
+    Size = 4,
+    #[error("a range is not ordered: low is not at most high")]
+    Order = 5,
+    #[error("a radius is not at least 0")]
+    Radius = 6,
+    #[error("a length to the turned box is NaN")]
+    NanLength = 7,
+    #[error("a corner has no image")]
+    NoImage = 8,
+    #[error("an index is not below the number of boxes")]
+    Index = 9,
+    #[error("a hatch list does not begin with its mark")]
+    Mark = 10,
+    #[error("a hatch list has an unknown version")]
+    Version = 11,
+    #[error("a hatch list has too many records")]
+    Count = 12,
+    #[error("the bytes of a hatch list are too few or too many")]
+    Length = 13,
+    #[error("a list of lines is not a multiple of four floats")]
+    Lines = 14,
+    #[error("a coordinate of a stroke is not finite")]
+    NotFinite = 15,
+    #[error("a corner's projection is NaN on an axis that is reached, whether it separates the boxes or not")]
+    NanProjection = 16,
+    #[error("the number of a corner is above 7")]
+    Corner = 17,
+}
+
+impl Refusal {
+    ghost use Rattle.types.specs.Refusal.{number_of, refusal_at};
+
+    // The number by which C knows the refusal.
+    pub fn number(self) -> u32
+        ensures { result ≡ number_of self }
+    {
+        self as u32
+    }
+
+    pub fn at(self, place: usize) -> RefusalAt
+        ensures { result ≡ refusal_at self place }
+    {
+        RefusalAt {
+            refusal: self,
+            place,
+        }
+    }
+}
+
+// A refusal with its place: a stroke's coordinate, 0 to 3, or a byte of a hatch list. One that tells no place has 0.
+#[derive(Clone, Copy, Debug, PartialEq, Eq, Error)]
+#[error("{refusal}")]
+pub struct RefusalAt {
+    pub refusal: Refusal,
+    pub place: usize,
+}
+
+impl From<Refusal> for RefusalAt {
+    ghost use Rattle.types.specs.Refusal.{nowhere};
+
+    ghost from_gives = { λ refusal at. at ≡ nowhere refusal };
+
+    fn from(refusal: Refusal) -> RefusalAt {
+        refusal.at(0)
+    }
+}

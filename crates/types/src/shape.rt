@@ -2,7 +2,7 @@
 
 // A point or a vector.
 #[repr(C)]
-#[derive(Clone, Copy)]
+#[derive(Clone, Copy, Debug, PartialEq)]
 pub struct Vec2 {
     // Grows with the column.
     pub x: f32,
@@ -12,7 +12,7 @@ pub struct Vec2 {
 
 // A point or a vector of space.
 #[repr(C)]
-#[derive(Clone, Copy)]
+#[derive(Clone, Copy, Debug, PartialEq)]
 pub struct Vec3 {
     // Along the first axis.
     pub x: f32,
@@ -24,7 +24,7 @@ pub struct Vec3 {
 
 // The numbers from low to high.
 #[repr(C)]
-#[derive(Clone, Copy)]
+#[derive(Clone, Copy, Debug, PartialEq)]
 pub struct Range {
     // The least number.
     pub low: f32,
@@ -34,7 +34,7 @@ pub struct Range {
 
 // An upright box: an axis-aligned bounding box by its low and its high corner.
 #[repr(C)]
-#[derive(Clone, Copy)]
+#[derive(Clone, Copy, Debug, PartialEq)]
 pub struct Aabb2 {
     // x of the low corner.
     pub min_x: f32,
@@ -48,7 +48,7 @@ pub struct Aabb2 {
 
 // An upright box of space: an axis-aligned bounding box by its low and its high corner.
 #[repr(C)]
-#[derive(Clone, Copy)]
+#[derive(Clone, Copy, Debug, PartialEq)]
 pub struct Aabb3 {
     // x of the low corner.
     pub min_x: f32,
@@ -66,7 +66,7 @@ pub struct Aabb3 {
 
 // A turned box: an oriented bounding box by its centre and two half edges, u and v.
 #[repr(C)]
-#[derive(Clone, Copy)]
+#[derive(Clone, Copy, Debug, PartialEq)]
 pub struct Obb2 {
     // x of the centre.
     pub cx: f32,
@@ -84,7 +84,7 @@ pub struct Obb2 {
 
 // A turned box of space: an oriented bounding box by its centre and three half edges, u, v and w.
 #[repr(C)]
-#[derive(Clone, Copy)]
+#[derive(Clone, Copy, Debug, PartialEq)]
 pub struct Obb3 {
     // x of the centre.
     pub cx: f32,
@@ -114,7 +114,7 @@ pub struct Obb3 {
 
 // A 3 by 3 matrix in column-major order: mRC stands in row R and column C.
 #[repr(C)]
-#[derive(Clone, Copy)]
+#[derive(Clone, Copy, Debug, PartialEq)]
 pub struct Mat3 {
     // Row 0, column 0.
     pub m00: f32,

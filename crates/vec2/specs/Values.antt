@@ -1,14 +1,8 @@
 -- What the routines on points and vectors return, each operation rounded. Definitions only.
 use Rattle.std.specs.Prelude.{Float}
 use Rattle.types.specs.declared.shape.Vec2.{Vec2}
-use Rattle.float.specs.Rounded.{◌⊕◌, ◌⊖◌, ◌⊗◌}
 use Rattle.root.specs.Root.{sqrt_of}
-
-abbrev pub sub_of : Vec2 → Vec2 → Vec2
-sub_of a b = record { x = a.x ⊖ b.x; y = a.y ⊖ b.y }
-
-abbrev pub dot_of : Vec2 → Vec2 → Float
-dot_of a b = a.x ⊗ b.x ⊕ a.y ⊗ b.y
+pub use Rattle.types.specs.Vec2.{sub_of, dot_of}
 
 abbrev pub squared_length_of : Vec2 → Float
 squared_length_of p = dot_of p p

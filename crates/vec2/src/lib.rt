@@ -4,32 +4,29 @@
 ghost use Rattle.std.specs.Prelude.{◌≡◌};
 ghost use Rattle.vec2.specs.Values.{sub_of, dot_of, squared_length_of, length_of};
 
-use types::Vec2;
+use types::{Vec2, Vector};
 
 // a - b, by component.
 pub fn sub(a: Vec2, b: Vec2) -> Vec2
     ensures { result ≡ sub_of a b }
 {
-    Vec2 {
-        x: a.x - b.x,
-        y: a.y - b.y,
-    }
+    a - b
 }
 
 pub fn dot(a: Vec2, b: Vec2) -> f32
     ensures { result ≡ dot_of a b }
 {
-    a.x * b.x + a.y * b.y
+    a.dot(b)
 }
 
 pub fn squared_length(p: Vec2) -> f32
     ensures { result ≡ squared_length_of p }
 {
-    p.x * p.x + p.y * p.y
+    p.dot(p)
 }
 
 pub fn length(p: Vec2) -> f32
     ensures { result ≡ length_of p }
 {
-    root::sqrt(p.x * p.x + p.y * p.y)
+    root::sqrt(p.dot(p))
 }

@@ -2,7 +2,7 @@
 use Rattle.std.proofs.Common.{map, sym, ap, arith}
 use Rattle.vec3.specs.Values.{cross_of}
 use Rattle.axes.proofs.Elements.{by_elements}
-use Rattle.obb3_search.proofs.Nowhere.{nowhere}
+use Rattle.obb3_intersect.proofs.Nowhere.{nowhere}
 use Rattle.obb3_intersect.proofs.crosses.Goals as goal
 
 pub returns : goal.returns

@@ -1,12 +1,8 @@
--- After each turn the axes that are left decide, until one ends the search or none is left.
-use Rattle.std.proofs.Common.{◌≡◌, ◌-◌, ◌≤◌}
-use Rattle.obb3_intersect.specs.Intersect.{units_of}
-use Rattle.obb3_intersect.proofs.Turns.{Turn}
+-- The cross products of the edges that are left decide.
+use Rattle.std.proofs.Common.{drop}
+use Rattle.obb3_intersect.specs.Intersect.{crosses_of}
+use Rattle.obb3_intersect.proofs.Parts.{Decide}
 use Rattle.obb3_intersect.proofs.is_intersect_to_obb3.Given as goal
 
--- from the second turn on vs has the edges of b
-abbrev pub invariant-turns : goal.invariant-turns
-invariant-turns l = (l.turn ≤ 4) × (1 ≤ l.turn → l.vs ≡ units_of l.fn.b) × Turn l.ps l.qs l.us (units_of l.fn.b) l.axes l.turn
-
-abbrev pub decreases-turns : goal.decreases-turns
-decreases-turns l = 4 - l.turn
+abbrev pub invariant-loop-u : goal.invariant-loop-u
+invariant-loop-u l = Decide l.fn.a l.fn.b (crosses_of (drop l.u-index l.u-items) l.vs)

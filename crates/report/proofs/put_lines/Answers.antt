@@ -1,21 +1,16 @@
-use Rattle.std.proofs.Common.{List, ap, ◌∙◌, ◌+◌, arith}
-use Rattle.std.specs.Prelude.{Float}
-use Rattle.text.proofs.Laws.{none, same}
-use Rattle.report.specs.Report.{clip_at, line_of, lines_of}
-use Rattle.report.proofs.Lines.{lines_more, record_clip}
+use Rattle.std.proofs.Common.{ap, ◌∙◌, ◌+◌}
+use Rattle.text.proofs.Laws.{same}
+use Rattle.report.specs.Report.{clip_of, line_of}
+use Rattle.report.proofs.Lines.{lines_none, lines_more, record_is}
 use Rattle.report.proofs.put_lines.Goals as goal
 
 pub loop-k-init : goal.loop-k-init
-unfolding lines_of
-loop-k-init c = record { in_records = omega arith; so_far = none _ }
+loop-k-init c = lines_none _ _
 
 pub loop-k-preserved : goal.loop-k-preserved
 loop-k-preserved c =
-    let clipped =
-    c.clip.ensures
-    ∙ ap (λ (f : List Float). clip_at f 0) c.record_floats-record.ensures
-    ∙ record_clip c.args.width c.args.count c.args.bytes.now c.requires c.loop-k.k (omega arith) in
-    record {
-      in_records = omega arith;
-      so_far = lines_more _ c.loop-k.k c.loop-k.invariant.so_far (same (ap (line_of (c.loop-k.k + 1)) clipped) c.put_line-to.ensures);
-    }
+    let a = c.args in
+    let k = c.loop-k.k in
+    let is = record_is a.width a.count a.bytes.now c.requires k c.loop-k-test.true c.in-Some.ensures in
+    let clipped = c.intersections_against_line-clipped.ensures.answers ∙ ap clip_of is in
+    lines_more _ k c.loop-k.invariant (same (ap (line_of (k + 1)) clipped) c.put_line.ensures)

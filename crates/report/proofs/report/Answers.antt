@@ -1,21 +1,24 @@
-use Rattle.std.proofs.Common.{sym, ◌∙◌}
-use Rattle.hatch_format.specs.Format.{hsl}
-use Rattle.hatch_format.proofs.Records.{held}
-use Rattle.text.proofs.Laws.{many, same}
-use Rattle.report.proofs.Room.{reports, refusal, records}
+use Rattle.std.proofs.Common.{ap, ◌∙◌, arith, length, ◌≤◌, rules}
+use Rattle.text.specs.Page.{puts}
+use Rattle.report.specs.Report.{report_of}
+use Rattle.report.proofs.Room.{size_is, list_is, size_below}
 use Rattle.report.proofs.report.Goals as goal
 
-pub put_lines-requires : goal.put_lines-requires
-put_lines-requires c = held hsl _ _ _ (sym c.head_of.ensures ∙ c.in-Accepted.is)
+pub returns-clause-value : goal.returns-clause-value
+returns-clause-value c =
+    let l = c.args.out.now in
+    let short : length c.args.out.now ≤ 0xffff_ffff_ffff_ffff = omega arith in
+    let text = c.put_report.ensures.text ∙ ap (λ p. puts p (report_of c.args.bytes.now)) c.new-page.ensures.text in
+    c.size.ensures ∙ size_is c.args.bytes.now l _ _ short text
 
--- the text is that of what the file says
-pub returns-in-Refused : goal.returns-in-Refused
-returns-in-Refused c =
-    let told = reports _ _ _ _ (same (refusal _ c.head_of.ensures c.in-Refused.is) c.put_refusal.ensures) in
-    record { value = told.0; out_after = told.1.0; upper_bound = told.1.1 }
+pub returns-clause-out_after : goal.returns-clause-out_after
+returns-clause-out_after c =
+    let short : length c.args.out.now ≤ 0xffff_ffff_ffff_ffff = omega arith in
+    let text = c.put_report.ensures.text ∙ ap (λ p. puts p (report_of c.args.bytes.now)) c.new-page.ensures.text in
+    search rules ∙ list_is c.args.bytes.now c.args.out.now c.put_report.new.page.bytes.now _ short text
 
-pub returns-in-Accepted : goal.returns-in-Accepted
-returns-in-Accepted c =
-    let text = many _ _ c.put_opening-at.ensures c.put_lines.ensures in
-    let told = reports _ _ _ _ (same (records _ c.head_of.ensures c.in-Accepted.is) text) in
-    record { value = told.0; out_after = told.1.0; upper_bound = told.1.1 }
+pub returns-clause-upper_bound : goal.returns-clause-upper_bound
+returns-clause-upper_bound c =
+    let short : length c.args.out.now ≤ 0xffff_ffff_ffff_ffff = omega arith in
+    let text = c.put_report.ensures.text ∙ ap (λ p. puts p (report_of c.args.bytes.now)) c.new-page.ensures.text in
+    omega (arith, size_below c.args.bytes.now c.args.out.now _ _ short text)

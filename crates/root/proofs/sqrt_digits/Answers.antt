@@ -1,11 +1,9 @@
-use Rattle.std.proofs.Common.{◌≡◌, ℕ, false, refl, sym, ap, subst, ◌∙◌, rules}
+use Rattle.std.proofs.Common.{◌≡◌, ℕ, true, false, refl, sym, ap, subst, ◌∙◌, rules}
 use Rattle.std.specs.Prelude.{T, Float}
-use Rattle.std.specs.Float.{nan, binary32}
-use Rattle.std.specs.Float.Ieee.{div, fits, of_bits, to_bits}
+use Rattle.std.specs.Float.{nan, inf, fin, binary32}
+use Rattle.std.specs.Float.Ieee.{fits, is_nan, of_bits, to_bits}
 use Rattle.std.specs.Float.Ieee.Positive.{positive}
 use lib.Ieee.Bits.{to_bits-lt}
-use lib.Ieee.Compare.{differs_from_itself}
-use Rattle.float.proofs.Tests.{not_nan}
 use Rattle.root.specs.Radicand.{radicand}
 use Rattle.root.specs.Root.{nearest_root, sqrt_of}
 use Rattle.root.specs.Promise.{SquareRoot}
@@ -28,19 +26,22 @@ unworked {r} x f e s same none =
     let other : positive x ≡ false = ap positive e ∙ s.1 in
     (square_root x r f is, digits_worked x f is (λ p. absurd (subst T other p)) (λ n. none))
 
-zero_over_zero : div binary32 (of_bits binary32 0) (of_bits binary32 0) ≡ nan
-unfolding div of_bits
-zero_over_zero = refl
+nan_is : of_bits binary32 0x7fc0_0000 ≡ nan
+unfolding of_bits
+nan_is = refl
 
-pub returns-then-x : goal.returns-then-x
-returns-then-x c =
+only_nan : (x : Float) → is_nan x ≡ true → x ≡ nan
+unfolding is_nan
+only_nan nan h = refl
+only_nan (inf s) h = absurd (subst T (sym h) tt)
+only_nan (fin s m e) h = absurd (subst T (sym h) tt)
+
+pub returns-then-is_nan : goal.returns-then-is_nan
+returns-then-is_nan c =
     let f : T (fits binary32 c.args.x) = subst T (sym c.well_formed.0.1) tt in
     let u = c.unworked.ensures in
-    let is = differs_from_itself c.args.x (subst T (sym c.if-x.true) tt) in
+    let is = only_nan c.args.x (sym c.is_nan.ensures.value ∙ c.if-is_nan.true) in
     unworked c.args.x f is root_nan (u.0 ∙ is) u.1
-
-pub float_to_bits-bits : goal.float_to_bits-bits
-float_to_bits-bits c = not_nan c.args.x c.if-x.false
 
 pub returns-then-bits-eq0 : goal.returns-then-bits-eq0
 returns-then-bits-eq0 c =
@@ -62,7 +63,7 @@ returns-then-bits-gt2147483648 c =
     let f : T (fits binary32 x) = subst T (sym c.well_formed.0.1) tt in
     let u = c.unworked-then-bits-gt2147483648.ensures in
     let none = root_negative (to_bits binary32 x) c.if-bits-gt2147483648.true (to_bits-lt binary32 x f) in
-    unworked x f (own x f) none (u.0 ∙ zero_over_zero) u.1
+    unworked x f (own x f) none (u.0 ∙ nan_is) u.1
 
 pub returns-then-bits-ge2139095040 : goal.returns-then-bits-ge2139095040
 returns-then-bits-ge2139095040 c =

@@ -22,6 +22,5 @@ returns c =
       | then-exponent-eq0 w ↦ (omega arith, omega arith)
       | else-exponent-eq0 w ↦ (omega arith, omega arith)
     ] in
-    let rounds : Rounds (n * 2 ^ 23) c.guess-root.result = confirmed n c.guess-root.result range.0 range.1 (search rules) (search rules) in
-    let f = root_of_normal b n c.guess-root.result (search rules) (search rules) split rounds in
-    (f.0, λ some. f.1)
+    let rounds : Rounds (n * 2 ^ 23) c.in_ok-root.root = confirmed n c.in_ok-root.root range.0 range.1 (search rules) (search rules) in
+    root_of_normal b n c.in_ok-root.root (search rules) (search rules) split rounds

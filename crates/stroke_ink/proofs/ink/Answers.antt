@@ -1,5 +1,5 @@
 use Rattle.std.proofs.Common.{◌≡◌, sym, ◌∙◌}
-use Rattle.stroke_check.specs.declared.Offender.TheVariants.{None}
+use Rattle.std.specs.Prelude.{None}
 use Rattle.stroke_check.specs.Check.{first_offender_of, coordinates, unless_offender}
 use Rattle.stroke_check.proofs.Accepted.{AreFloats}
 use Rattle.stroke_ink.specs.Ink.{ink_of}

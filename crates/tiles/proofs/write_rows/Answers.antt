@@ -1,8 +1,5 @@
-use Rattle.tiles.proofs.Lists.{rows_suc}
+use Rattle.tiles.proofs.Lists.{rows_more}
 use Rattle.tiles.proofs.write_rows.Goals as goal
 
 pub loop-i-preserved : goal.loop-i-preserved
-loop-i-preserved c =
-    let a = c.args in
-    let next = rows_suc a.out.now a.width a.c a.k a.r c.loop-i.i in
-    rw (c.write_run.ensures, c.loop-i.invariant) next
+loop-i-preserved c = rows_more _ _ _ _ _ _ _ _ _ c.loop-i-test.true c.requires.room c.loop-i.invariant c.write_run.ensures

@@ -1,7 +1,7 @@
-use Rattle.std.proofs.Common.{◌≡◌}
-use Rattle.tiles.proofs.Lists.{pasted}
+use Rattle.std.proofs.Common.{◌≡◌, ◌++◌, drop}
+use Rattle.tiles.specs.Tiles.{run}
 use Rattle.tiles.proofs.write_run.Given as goal
 
 -- the first j numbers of the run are written
 abbrev pub invariant-loop-j : goal.invariant-loop-j
-invariant-loop-j l = l.out ≡ pasted l.fn.out l.at l.a l.j
+invariant-loop-j l = l.out ≡ run l.first l.j ++ drop l.j l.fn.out

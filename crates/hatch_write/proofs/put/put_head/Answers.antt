@@ -12,7 +12,7 @@ returns c =
     let m = c.args.mark.now in
     let v = half_bytes c.args.version in
     let n = half_bytes c.args.count in
-    rw (c.put_half-2.ensures, c.put_half.ensures, c.put_bytes.ensures)
+    rw (c.put-3.ensures, c.to_le_bytes-2.ensures, c.put-2.ensures, c.to_le_bytes.ensures, c.put.ensures)
     (sets_append v n (sets l 0 m) 3
     ∙ ap (λ (k : ℕ). sets (sets l 0 m) k (v ++ n)) (sym (zero-add (length m) ∙ c.requires.0))
     ∙ sets_append m (v ++ n) l 0)

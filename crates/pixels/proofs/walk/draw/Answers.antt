@@ -1,49 +1,51 @@
-use Rattle.std.proofs.Common.{◌≡◌, sym, ap, ◌∙◌, subst, lit≤}
-use Rattle.std.specs.Prelude.{Float}
-use Rattle.types.specs.declared.shape.Vec2.{Vec2}
-use Rattle.rounded.specs.Size.{Size}
-use Rattle.rounded.proofs.Sizes.{size_wider}
-use Rattle.stroke.specs.declared.axis.Axis.{Axis}
-use Rattle.stroke.specs.Walk.{step_of, axis_from}
-use Rattle.stroke.proofs.Axes.{step_size}
+use Rattle.std.proofs.Common.{◌+◌, ◌<◌, false, not, nat_eq, length, sym, ◌∙◌, leb-true, leb-false, arith}
 use Rattle.stroke_check.proofs.Accepted.{passed}
-use Rattle.pixels.proofs.Answers.{Made, made_drawn, made_listing}
-use Rattle.pixels.proofs.Promised.{walked}
+use Rattle.stroke.specs.Walk.{exit}
+use Rattle.stroke.specs.Image.{one_if_of}
+use Rattle.pixels.specs.Post.{entered}
+use Rattle.pixels.proofs.Answers.{Made, made_listing, made_length, short_listing, as_number}
+use Rattle.pixels.proofs.Promised.{ample, walked}
+use Rattle.pixels.proofs.walk.draw.Goals.{then-is_ample-via-then-is_ample, then-is_ample-via-else-is_ample+then-has_room, then-more-list+else-is_ample+else-has_room, else-more-list}
 use Rattle.pixels.proofs.walk.draw.Goals as goal
 
--- the two axes are the stroke's
-made :
-    {p q : Vec2} {step : Float} {a b : Axis} →
-    step ≡ step_of p q →
-    a ≡ axis_from step p.x q.x →
-    b ≡ axis_from step p.y q.y →
-    Made p q a b
-made {p} {q} e f g = record {
-  a_is = f ∙ ap (λ (z : Float). axis_from z p.x q.x) e;
-  b_is = g ∙ ap (λ (z : Float). axis_from z p.y q.y) e;
-}
-
--- the coordinates are f32, as parameters of that type are
-pub cut-requires : goal.cut-requires
-cut-requires c =
-    let p = c.well_formed.1.1.1.0.1.1 in
-    let q = c.well_formed.1.1.1.1.0.1.1 in
-    let v = passed record { x0 = p.0.1; y0 = p.1.0.1; x1 = q.0.1; y1 = q.1.0.1 } c.requires in
-    subst (Size 196610) (sym c.step_of-step.ensures) (size_wider 131072 196610 (step_of c.args.p0 c.args.p1) (lit≤ tt) (step_size v.stroke))
-
+-- the coordinates are f32, as fields of that type are
 pub fill-requires : goal.fill-requires
-fill-requires c =
-    let p = c.well_formed.1.1.1.0.1.1 in
-    let q = c.well_formed.1.1.1.1.0.1.1 in
-    let v = passed record { x0 = p.0.1; y0 = p.1.0.1; x1 = q.0.1; y1 = q.1.0.1 } c.requires in
-    made_drawn (made c.step_of-step.ensures c.axis_of-a.ensures c.axis_of-b.ensures) v
+fill-requires g c =
+    let p = c.well_formed.0.1.1.1.0.1.1 in
+    let q = c.well_formed.0.1.1.1.1.0.1.1 in
+    let s = c.args.stroke in
+    let v = passed record { x0 = p.0.1; y0 = p.1.0.1; x1 = q.0.1; y1 = q.1.0.1 } s.accepted in
+    let made : Made s.image s.p0 s.p1 c.new-course.result = record { image_is = c.new-course.ensures.image; a_is = c.new-course.ensures.x; b_is = c.new-course.ensures.y } in
+    let n = as_number (not (nat_eq g.row.CLOSING 0)) in
+    elim c.then-is_ample.branch [
+      | then-is_ample-via-then-is_ample w ↦
+          omega (arith, n, made_length made, ample false s.image.width s.image.height s.p0 s.p1 c.args.list.now v _ (sym c.is_ample.ensures ∙ w.if-is_ample.true))
+      | then-is_ample-via-else-is_ample+then-has_room w ↦ omega (arith, n, leb-true _ _ (sym w.has_room.ensures ∙ w.if-has_room.true))
+    ]
+
+pub returns-then-is_ample : goal.returns-then-is_ample
+returns-then-is_ample g c =
+    let p = c.well_formed.0.1.1.1.0.1.1 in
+    let q = c.well_formed.0.1.1.1.1.0.1.1 in
+    let s = c.args.stroke in
+    let v = passed record { x0 = p.0.1; y0 = p.1.0.1; x1 = q.0.1; y1 = q.1.0.1 } s.accepted in
+    let made : Made s.image s.p0 s.p1 c.new-course.result = record { image_is = c.new-course.ensures.image; a_is = c.new-course.ensures.x; b_is = c.new-course.ensures.y } in
+    walked _ s.image.width s.image.height s.p0 s.p1 c.args.list.now v s.accepted _ _ (made_listing made _ c.args.list.now _ _ c.fill.ensures)
 
 pub returns : goal.returns
-returns c =
-    let p = c.well_formed.1.1.1.0.1.1 in
-    let q = c.well_formed.1.1.1.1.0.1.1 in
-    let v = passed record { x0 = p.0.1; y0 = p.1.0.1; x1 = q.0.1; y1 = q.1.0.1 } c.requires in
-    let g = c.args in
-    walked g.closing g.width g.height g.p0 g.p1 g.list.now v c.requires c.fill.result c.fill.new.list
-    (made_listing (made c.step_of-step.ensures c.axis_of-a.ensures c.axis_of-b.ensures)
-    g.closing g.width g.height g.list.now c.fill.result c.fill.new.list c.fill.ensures)
+returns g c =
+    let p = c.well_formed.0.1.1.1.0.1.1 in
+    let q = c.well_formed.0.1.1.1.1.0.1.1 in
+    let s = c.args.stroke in
+    let v = passed record { x0 = p.0.1; y0 = p.1.0.1; x1 = q.0.1; y1 = q.1.0.1 } s.accepted in
+    let course = c.new-course.result in
+    let made : Made s.image s.p0 s.p1 course = record { image_is = c.new-course.ensures.image; a_is = c.new-course.ensures.x; b_is = c.new-course.ensures.y } in
+    let t = not (nat_eq g.row.CLOSING 0) in
+    let n = as_number t in
+    let short : length c.args.list.now < length (entered course.image.width course.image.height course.walk.x course.walk.y (exit course.walk.x course.walk.y)) + one_if_of t =
+    elim c.if-more-list.branch [
+      | then-more-list+else-is_ample+else-has_room w ↦ omega (arith, n, leb-false _ _ (sym w.has_room.ensures ∙ w.if-has_room.false))
+      | else-more-list w ↦ omega (arith, n, w.if-more-list.false)
+    ] in
+    rw c.into.ensures
+    (walked _ s.image.width s.image.height s.p0 s.p1 c.args.list.now v s.accepted _ _ (made_listing made _ c.args.list.now _ _ (short_listing _ _ _ _ _ _ short)))

@@ -1,17 +1,10 @@
-use Rattle.std.proofs.Common.{sym}
-use Rattle.stroke_check.proofs.Accepted.{not_short}
-use Rattle.pixels.proofs.Promised.{refused, refused_at}
+use Rattle.std.proofs.lemmas.Result.{err_from_is_err_and}
+use Rattle.pixels.proofs.Promised.{refused}
 use Rattle.pixels.proofs.walk.walk.Goals as goal
 
--- what was found of the stroke decides
-pub returns-in-Refused : goal.returns-in-Refused
-returns-in-Refused c =
+-- a stroke that is not accepted is refused as `Accepted::new` refuses it
+pub returns-in_err-stroke : goal.returns-in_err-stroke
+returns-in_err-stroke g c =
     let s = c.args in
-    let n = c.in-Refused.number in
-    let e = sym c.in-Refused.ensures in
-    refused s.closing s.width s.height s.p0 s.p1 s.list.now n (not_short s.width s.height s.p0 s.p1 n e) e
-
-pub returns-in-RefusedAt : goal.returns-in-RefusedAt
-returns-in-RefusedAt c =
-    let s = c.args in
-    refused_at s.closing s.width s.height s.p0 s.p1 s.list.now c.in-RefusedAt.number c.in-RefusedAt.place (sym c.in-RefusedAt.ensures)
+    let told = err_from_is_err_and c.from_residual.result c.from_residual.ensures.1 in
+    rw (told.1, told.2) (refused _ s.width s.height s.p0 s.p1 s.list.now _ c.in_err-stroke.ensures.refused)

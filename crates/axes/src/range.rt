@@ -1,0 +1,29 @@
+// The range of numbers, and whether two lie apart.
+ghost use Rattle.std.specs.Prelude.{◌≡◌};
+ghost use Rattle.axes.specs.Axes.{widened_of, apart_of};
+
+use types::Range;
+
+// The range of no numbers.
+pub(crate) const EMPTY: Range = Range {
+    low: f32::INFINITY,
+    high: f32::NEG_INFINITY,
+};
+
+// The range widened to hold x. The ends are numbers, so that one test each leaves a NaN out.
+pub fn widened(r: Range, x: f32) -> Range
+    ensures { result ≡ widened_of r x }
+{
+    Range {
+        low: float::lesser(r.low, x),
+        high: float::greater(r.high, x),
+    }
+}
+
+// Whether one range's maximum is strictly below the other's minimum. Both are tested, with no jump between.
+#[tactic(auto, unfolding(crate::specs::Axes::apart_of))]
+pub fn apart(a: Range, b: Range) -> bool
+    ensures { result ≡ apart_of a b }
+{
+    (a.high < b.low) | (a.low > b.high)
+}

@@ -1,0 +1,25 @@
+-- One comparison for each coordinate of a stretch. Definitions only.
+use Rattle.std.specs.Prelude.{◌≡◌, Bool, false, ◌&&◌, ◌||◌, ℕ, suc, ◌≤◌, Float}
+use Rattle.std.specs.Float.Ieee.{lt, le}
+use Rattle.float.specs.Rounded.{+0}
+use Rattle.stroke.specs.declared.axis.Axis.{Axis}
+use Rattle.stroke.specs.Walk.{at, within, most_steps}
+use Rattle.stroke.specs.Image.{on_side_of}
+
+unfoldable pub at_least : Float → Float → Bool
+at_least limit x = le limit x
+
+unfoldable pub at_most : Float → Float → Bool
+at_most limit x = le x limit
+
+unfoldable pub below : Float → Float → Bool
+below limit x = lt x limit
+
+-- From step k on, `test` says whether the coordinate is in its range and on the side; and once it is not, it stays so.
+pub record Limits (test : Float → Bool) (a : Axis) (side : Float) (k : ℕ) : Type 0 where
+  pub allows_is : (i : ℕ) → k ≤ i → i ≤ most_steps → test (at a i) ≡ within a (at a i) && on_side_of side (at a i)
+  pub stays : (i : ℕ) → k ≤ i → suc i ≤ most_steps → test (at a i) ≡ false → test (at a (suc i)) ≡ false
+
+-- no number within the range is on the side
+unfoldable pub misses_of : Axis → Float → Bool
+misses_of a side = lt a.high +0 || le side a.low

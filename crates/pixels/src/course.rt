@@ -1,0 +1,81 @@
+// The course of a stroke's walk over an image, from the first position in the image on.
+ghost use Rattle.std.specs.Prelude.{◌≡◌};
+ghost use Rattle.std.proofs.Props.{props};
+ghost use Rattle.stroke.specs.Steps.{Paced};
+ghost use Rattle.stroke.proofs.Paces.{paced_prop};
+ghost use Rattle.pixels.specs.Limit.{misses_of};
+ghost use Rattle.pixels.specs.Post.{Entry};
+
+use stroke::{Accepted, Axis, Image, MOST_STEPS, Walk};
+use types::Vec2;
+
+// Where a walk has come to: how many entries were made, and the position after so many steps.
+#[derive(Clone, Copy, Debug, PartialEq)]
+pub(crate) struct Reached {
+    pub(crate) count: usize,
+    pub(crate) steps: usize,
+    pub(crate) position: Vec2,
+}
+
+// The walk of an accepted stroke, where it first comes into the image.
+#[derive(Clone, Copy, Debug, PartialEq)]
+pub(crate) struct Course {
+    pub(crate) image: Image,
+    pub(crate) walk: Walk,
+    pub(crate) first: Reached,
+    ghost paced: { Paced walk.x walk.y } by { paced_prop walk.x walk.y },
+    ghost entry: { Entry image.width image.height walk.x walk.y first } by { Prim.hlevel props },
+}
+
+// No number within the coordinate's range is on the side.
+fn misses(axis: Axis, side: f32) -> bool
+    ensures { result ≡ misses_of axis side }
+{
+    axis.high < 0.0 || axis.low >= side
+}
+
+// The first position in the image. If there is none, the first of all where the ranges tell so, and else the one at which the walk left them.
+fn entry(image: Image, walk: Walk) -> Reached
+    ensures { Entry image.width image.height walk.x walk.y result }
+{
+    let mut position = walk.first();
+    if misses(walk.x, image.width as f32) || misses(walk.y, image.height as f32) {
+        return Reached {
+            count: 0,
+            steps: 0,
+            position,
+        };
+    }
+    for steps in 0..MOST_STEPS {
+        if !walk.spans(position) || image.contains(position) {
+            return Reached {
+                count: 0,
+                steps,
+                position,
+            };
+        }
+        position = walk.next(position);
+    }
+    Reached {
+        count: 0,
+        steps: MOST_STEPS,
+        position,
+    }
+}
+
+impl Course {
+    ghost use Rattle.stroke.specs.Walk.{along_x, along_y};
+
+    pub(crate) fn new(stroke: Accepted) -> Self
+        ensures image { result.image ≡ stroke.image }
+        ensures x { result.walk.x ≡ along_x stroke.p0 stroke.p1 }
+        ensures y { result.walk.y ≡ along_y stroke.p0 stroke.p1 }
+    {
+        let walk = stroke.walk();
+        Course {
+            image: stroke.image,
+            walk,
+            first: entry(stroke.image, walk),
+        }
+    }
+}

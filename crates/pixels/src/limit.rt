@@ -1,0 +1,45 @@
+// A coordinate only grows or only falls. So once a position is in the image and in the ranges of the stroke's ends, one comparison tells
+// whether the coordinate stays in both, and there are three: by its direction, and by which of the two ends first.
+// A NaN passes none: on a processor set to flush subnormals a slope may be 0 / 0, and then the stretch ends.
+ghost use Rattle.std.specs.Prelude.{◌≡◌, Bool, Float};
+ghost use Rattle.pixels.specs.Limit.{at_least, at_most, below};
+
+pub(crate) trait Limit: Copy {
+    ghost test: { Self → Float → Bool };
+
+    fn allows(self, x: f32) -> bool
+        ensures { result ≡ test self x };
+}
+
+#[derive(Clone, Copy, Debug, PartialEq)]
+pub(crate) struct AtLeast(pub(crate) f32);
+
+impl Limit for AtLeast {
+    ghost test = { λ limit x. at_least limit.0 x };
+
+    fn allows(self, x: f32) -> bool {
+        x >= self.0
+    }
+}
+
+#[derive(Clone, Copy, Debug, PartialEq)]
+pub(crate) struct AtMost(pub(crate) f32);
+
+impl Limit for AtMost {
+    ghost test = { λ limit x. at_most limit.0 x };
+
+    fn allows(self, x: f32) -> bool {
+        x <= self.0
+    }
+}
+
+#[derive(Clone, Copy, Debug, PartialEq)]
+pub(crate) struct Below(pub(crate) f32);
+
+impl Limit for Below {
+    ghost test = { λ limit x. below limit.0 x };
+
+    fn allows(self, x: f32) -> bool {
+        x < self.0
+    }
+}

@@ -1,0 +1,137 @@
+// The positions of a walk that lie in the image: they are one stretch of it, since each coordinate only grows or only falls.
+ghost use Rattle.std.specs.Prelude.{◌≡◌, ◌≤◌, ◌&&◌, true, cond, length, nat_le, pos};
+ghost use Rattle.std.specs.Float.{binary32};
+ghost use Rattle.std.specs.Float.Ieee.{lt, of_int};
+ghost use Rattle.float.specs.Rounded.{+0};
+ghost use Rattle.stroke.specs.Image.{on_image};
+ghost use Rattle.stroke.specs.Walk.{position, in_ranges_of, exit};
+ghost use Rattle.pixels.specs.Limit.{Limits};
+ghost use Rattle.pixels.specs.Post.{entered, inside, Stretch};
+
+use crate::course::{Course, Reached};
+use crate::limit::{AtLeast, AtMost, Below, Limit};
+use crate::number::pixel_inside;
+use stroke::MOST_STEPS;
+use types::Vec2;
+
+// The end of the range or of the image.
+fn at_least_zero(x: f32) -> f32
+    ensures { result ≡ cond (lt x +0) +0 x }
+{
+    if x < 0.0 { 0.0 } else { x }
+}
+
+// The position is still in the stretch.
+fn allow<X: Limit, Y: Limit>(x: X, y: Y, p: Vec2) -> bool
+    ensures { result ≡ X.test x p.x && Y.test y p.y }
+{
+    x.allows(p.x) && y.allows(p.y)
+}
+
+// A stretch takes no more than `room` entries. They are written to `list` if `WRITE`, and else only counted.
+// A count has no list, so `room` stands beside it: a trait with a counter and a list as its two kinds is no plainer.
+impl Course {
+    // The walk goes on at p, which lies in the image.
+    fn is_inside(self, p: Vec2) -> bool
+        ensures { result ≡ in_ranges_of self.walk.x self.walk.y p && on_image self.image.width self.image.height p }
+    {
+        self.walk.spans(p) && self.image.contains(p)
+    }
+
+    // The stretch from its first position on, for two limits.
+    fn run<const WRITE: bool, X: Limit, Y: Limit>(
+        self,
+        list: &mut [u32],
+        room: usize,
+        x: X,
+        y: Y,
+    ) -> Reached
+        requires room { WRITE ≡ true → room ≤ length list.old }
+        requires x { Limits (X.test x) self.walk.x (of_int binary32 (pos self.image.width)) self.first.steps }
+        requires y { Limits (Y.test y) self.walk.y (of_int binary32 (pos self.image.height)) self.first.steps }
+        ensures { Stretch WRITE self.image.width self.image.height self.walk.x self.walk.y room result list.old list.new }
+    {
+        let mut position = self.first.position;
+        for count in 0..room {
+            if !allow(x, y, position) {
+                return Reached {
+                    count,
+                    steps: self.first.steps + count,
+                    position,
+                };
+            }
+            if WRITE {
+                list[count] = pixel_inside(self.image, position);
+            }
+            position = self.walk.next(position);
+        }
+        Reached {
+            count: room,
+            steps: self.first.steps + room,
+            position,
+        }
+    }
+
+    // The same for the limit of the rows, chosen.
+    fn along_rows<const WRITE: bool, X: Limit>(self, list: &mut [u32], room: usize, x: X) -> Reached
+        requires room { WRITE ≡ true → room ≤ length list.old }
+        requires lies { inside self.image.width self.image.height self.walk.x self.walk.y self.first.steps ≡ true }
+        requires x { Limits (X.test x) self.walk.x (of_int binary32 (pos self.image.width)) self.first.steps }
+        ensures { Stretch WRITE self.image.width self.image.height self.walk.x self.walk.y room result list.old list.new }
+    {
+        let axis = self.walk.y;
+        let side = self.image.height as f32;
+        if axis.slope < 0.0 {
+            let low = at_least_zero(axis.low);
+            self.run::<WRITE, X, AtLeast>(list, room, x, AtLeast(low))
+        } else if axis.high < side {
+            self.run::<WRITE, X, AtMost>(list, room, x, AtMost(axis.high))
+        } else {
+            self.run::<WRITE, X, Below>(list, room, x, Below(side))
+        }
+    }
+
+    // The stretch from its first position on.
+    pub(crate) fn stretch<const WRITE: bool>(self, list: &mut [u32], room: usize) -> Reached
+        requires room { WRITE ≡ true → room ≤ length list.old }
+        ensures { Stretch WRITE self.image.width self.image.height self.walk.x self.walk.y room result list.old list.new }
+    {
+        if !self.is_inside(self.first.position) {
+            return self.first;
+        }
+        let axis = self.walk.x;
+        let side = self.image.width as f32;
+        if axis.slope < 0.0 {
+            let low = at_least_zero(axis.low);
+            self.along_rows::<WRITE, AtLeast>(list, room, AtLeast(low))
+        } else if axis.high < side {
+            self.along_rows::<WRITE, AtMost>(list, room, AtMost(axis.high))
+        } else {
+            self.along_rows::<WRITE, Below>(list, room, Below(side))
+        }
+    }
+
+    // Whether a list with this room is long enough, by a count of the entries.
+    pub(crate) fn has_room(self, room: usize) -> bool
+        ensures { result ≡ nat_le (length (entered self.image.width self.image.height self.walk.x self.walk.y (exit self.walk.x self.walk.y))) room }
+    {
+        let last = self.stretch::<false>(&mut [], room);
+        !self.is_inside(last.position)
+    }
+
+    // The position at which the walk leaves the ranges of its ends.
+    pub(crate) fn leave(self, reached: Reached) -> Vec2
+        requires at { reached.position ≡ position self.walk.x self.walk.y reached.steps }
+        requires few { reached.steps ≤ exit self.walk.x self.walk.y }
+        ensures { result ≡ position self.walk.x self.walk.y (exit self.walk.x self.walk.y) }
+    {
+        let mut position = reached.position;
+        for _steps in reached.steps..MOST_STEPS {
+            if !self.walk.spans(position) {
+                return position;
+            }
+            position = self.walk.next(position);
+        }
+        position
+    }
+}

@@ -1,0 +1,13 @@
+-- Sums, differences and dot products of vectors of the plane, each operation rounded. Definitions only.
+use Rattle.std.specs.Prelude.{Float}
+use Rattle.types.specs.declared.shape.Vec2.{Vec2}
+use Rattle.float.specs.Rounded.{◌⊕◌, ◌⊖◌, ◌⊗◌}
+
+abbrev pub add_of : Vec2 → Vec2 → Vec2
+add_of a b = record { x = a.x ⊕ b.x; y = a.y ⊕ b.y }
+
+abbrev pub sub_of : Vec2 → Vec2 → Vec2
+sub_of a b = record { x = a.x ⊖ b.x; y = a.y ⊖ b.y }
+
+abbrev pub dot_of : Vec2 → Vec2 → Float
+dot_of a b = a.x ⊗ b.x ⊕ a.y ⊗ b.y
