@@ -1,5 +1,5 @@
-// Upright boxes: the stretch of a line or a ray inside, points inside, and the centre. A line is given by its origin and its direction, as in the
-// source: a struct of the two would be made by each caller and taken apart here.
+// Upright boxes: the stretch of a line or a ray inside, points inside, and the centre. A box stands beside a line's origin
+// and direction, or beside a point, as in the source: a struct of them would be made by each caller and taken apart here.
 #![tactic(auto, unfolding(crate::specs::Clip::intersections_against_line_of, crate::specs::Clip::intersections_against_ray_of, crate::specs::Inside::is_include_point_of, slabs::specs::Clip::clip_over, slabs::specs::Clip::narrow_all))]
 
 ghost use Rattle.std.specs.Prelude.{◌≡◌};
@@ -43,21 +43,22 @@ pub fn intersections_against_ray(b: Aabb2, origin: Vec2, direction: Vec2) -> Int
     ensures answers { result ≡ intersections_against_ray_of b origin direction }
     ensures means { IsRayAnswer (slabs b origin direction) result }
 {
-    intersections_against_line(b, origin, direction).ahead()
+    slabs::clip_ahead(&slabs(b, origin, direction))
 }
 
 // Whether p is in the box, edges included. A NaN is outside.
 pub fn is_include_point(b: Aabb2, p: Vec2) -> bool
     ensures { result ≡ is_include_point_of b p }
 {
-    slabs::within(b.min_x, b.max_x, p.x) & slabs::within(b.min_y, b.max_y, p.y)
+    slabs::within(b.x_range(), p.x) & slabs::within(b.y_range(), p.y)
 }
 
+// Written out, as in space: over a list of components it would be no plainer.
 pub fn center(b: Aabb2) -> Vec2
     ensures { result ≡ center_of b }
 {
     Vec2 {
-        x: (b.min_x + b.max_x) * 0.5,
-        y: (b.min_y + b.max_y) * 0.5,
+        x: b.x_range().middle(),
+        y: b.y_range().middle(),
     }
 }

@@ -2,11 +2,11 @@
 #![tactic(auto, unfolding(crate::specs::Change::with_image_of, crate::specs::Change::transform_homogeneous_of, crate::specs::Change::with_images))]
 
 ghost use Rattle.std.specs.Prelude.{◌≡◌};
-ghost use Rattle.mat3.specs.Values as mat3;
+ghost use Rattle.aabb2_from.specs.From.{from_two_aabbs_of};
 ghost use Rattle.aabb.specs.Inside.{center_of};
-ghost use Rattle.aabb2_change.specs.Change.{max_edge_size_of, transform_homogeneous_of, to_transformation_world2unit_ortho_preserve_asp_of, scale_of, translate_of, reach, corner, no_points_of, with_image_of};
+ghost use Rattle.aabb2_change.specs.Change.{max_edge_size_of, transform_homogeneous_of, to_transformation_world2unit_ortho_preserve_asp_of, scale_of, translate_of, reach, corners_of, no_points_of, point_of};
 
-use types::{Aabb2, Mat3, Refusal, Vec2};
+use types::{Aabb2, Mat3, Range, Refusal, Vec2};
 
 pub fn center(b: Aabb2) -> Vec2
     ensures { result ≡ center_of b }
@@ -18,7 +18,7 @@ pub fn center(b: Aabb2) -> Vec2
 pub fn max_edge_size(b: Aabb2) -> f32
     ensures { result ≡ max_edge_size_of b }
 {
-    float::max(b.max_x - b.min_x, b.max_y - b.min_y)
+    float::max(b.x_range().length(), b.y_range().length())
 }
 
 // The box of no points.
@@ -33,12 +33,11 @@ fn no_points() -> Aabb2
     }
 }
 
-// A box widened to hold a corner's image. A corner with no image is refused.
-fn with_image(b: Aabb2, image: Option<Vec2>) -> Result<Aabb2, Refusal>
-    ensures { result ≡ with_image_of b image }
+// A box widened to hold an image.
+fn with_image(b: Aabb2, p: Vec2) -> Aabb2
+    ensures { result ≡ from_two_aabbs_of b (point_of p) }
 {
-    let p = image.ok_or(Refusal::NoImage)?;
-    Ok(aabb2_from::from_two_aabbs(
+    aabb2_from::from_two_aabbs(
         b,
         Aabb2 {
             min_x: p.x,
@@ -46,23 +45,43 @@ fn with_image(b: Aabb2, image: Option<Vec2>) -> Result<Aabb2, Refusal>
             max_x: p.x,
             max_y: p.y,
         },
-    ))
+    )
 }
 
-fn image(m: Mat3, x: f32, y: f32) -> Option<Vec2>
-    ensures { result ≡ mat3.transform_homogeneous_of m (corner x y) }
+// The corners: both low, low x and high y, high x and low y, both high. The source meets them in this order; the one of obb2_corners has another.
+fn corners(b: Aabb2) -> [Vec2; 4]
+    ensures { result ≡ corners_of b }
 {
-    mat3::transform_homogeneous(m, Vec2 { x, y })
+    [
+        Vec2 {
+            x: b.min_x,
+            y: b.min_y,
+        },
+        Vec2 {
+            x: b.min_x,
+            y: b.max_y,
+        },
+        Vec2 {
+            x: b.max_x,
+            y: b.min_y,
+        },
+        Vec2 {
+            x: b.max_x,
+            y: b.max_y,
+        },
+    ]
 }
 
 // The box around the images of the four corners. A corner with no image is refused.
 pub fn transform_homogeneous(b: Aabb2, m: Mat3) -> Result<Aabb2, Refusal>
     ensures { result ≡ transform_homogeneous_of b m }
 {
-    let one = with_image(no_points(), image(m, b.min_x, b.min_y))?;
-    let two = with_image(one, image(m, b.min_x, b.max_y))?;
-    let three = with_image(two, image(m, b.max_x, b.min_y))?;
-    with_image(three, image(m, b.max_x, b.max_y))
+    let mut wider = no_points();
+    for p in corners(b) {
+        let image = mat3::transform_homogeneous(m, p).ok_or(Refusal::NoImage)?;
+        wider = with_image(wider, image);
+    }
+    Ok(wider)
 }
 
 // The transform that takes the box into the unit square, both axes scaled alike, the centre to the square's.
@@ -84,11 +103,11 @@ pub fn to_transformation_world2unit_ortho_preserve_asp(b: Aabb2) -> Mat3
     }
 }
 
-// Half the edge from low to high, times s.
-fn reach(low: f32, high: f32, s: f32) -> f32
-    ensures { result ≡ reach low high s }
+// Half the length of a range, times s.
+fn reach(range: Range, s: f32) -> f32
+    ensures { result ≡ reach range.low range.high s }
 {
-    (high - low) * 0.5 * s
+    range.length() * 0.5 * s
 }
 
 // The box with its edges s times as long, about its centre.
@@ -96,8 +115,8 @@ pub fn scale(b: Aabb2, s: f32) -> Aabb2
     ensures { result ≡ scale_of b s }
 {
     let c = center(b);
-    let dx = reach(b.min_x, b.max_x, s);
-    let dy = reach(b.min_y, b.max_y, s);
+    let dx = reach(b.x_range(), s);
+    let dy = reach(b.y_range(), s);
     Aabb2 {
         min_x: c.x - dx,
         min_y: c.y - dy,

@@ -1,4 +1,5 @@
-// Boxes made from points and from other boxes.
+// Boxes made from points and from other boxes. A box, a point and a radius stand side by side as parameters, as in the source, in C and in
+// ./ask: a struct of them would be made by each caller and taken apart at once.
 #![tactic(auto, unfolding(crate::specs::From::from_point_of, crate::specs::From::add_point_of))]
 
 ghost use Rattle.std.specs.Prelude.{◌≡◌};
@@ -6,7 +7,8 @@ ghost use Rattle.aabb2_from.specs.From.{from_point_of, from_two_points_of, from_
 
 use types::{Aabb2, Refusal, Vec2};
 
-// The square around a point, whatever the radius.
+// The square around a point, whatever the radius. Written out, as `aabb3_from::set_as_cube` is for three components: a trait over both boxes
+// for so few lines would be no plainer.
 fn around(p: Vec2, radius: f32) -> Aabb2
     ensures { result ≡ around_of p radius }
 {
@@ -50,8 +52,5 @@ pub fn from_two_points(p: Vec2, q: Vec2, radius: f32) -> Aabb2
 pub fn add_point(b: Aabb2, p: Vec2, radius: f32) -> Result<Aabb2, Refusal>
     ensures { result ≡ add_point_of b p radius }
 {
-    if radius >= 0.0 {
-        return Ok(from_two_aabbs(b, around(p, radius)));
-    }
-    Err(Refusal::Radius)
+    Ok(from_two_aabbs(b, from_point(p, radius)?))
 }

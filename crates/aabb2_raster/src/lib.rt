@@ -4,7 +4,7 @@
 ghost use Rattle.std.specs.Prelude.{◌≡◌, ◌≤◌};
 ghost use Rattle.aabb2_raster.specs.Raster.{first_pixel_of, end_pixel_of, rasterize_of};
 
-use types::{Aabb2, Pixels, Refusal};
+use types::{Aabb2, Pixels, Refusal, SIDE_MAX};
 
 // The first pixel whose centre is not below low, from 0 on.
 fn first_pixel(low: f32) -> usize
@@ -15,7 +15,7 @@ fn first_pixel(low: f32) -> usize
 
 // One past the last pixel below side whose centre is below high.
 fn end_pixel(high: f32, side: usize) -> usize
-    requires { side ≤ 16384 }
+    requires { side ≤ SIDE_MAX }
     ensures { result ≡ end_pixel_of high side }
 {
     rounding::to_usize(float::min(rounding::ceil(high - 0.5), side as f32))
@@ -26,7 +26,7 @@ fn end_pixel(high: f32, side: usize) -> usize
 pub fn rasterize(b: Aabb2, width: usize, height: usize) -> Result<Pixels, Refusal>
     ensures { result ≡ rasterize_of b width height }
 {
-    if width <= 16384 && height <= 16384 {
+    if width <= SIDE_MAX && height <= SIDE_MAX {
         return Ok(Pixels {
             x0: first_pixel(b.min_x),
             y0: first_pixel(b.min_y),

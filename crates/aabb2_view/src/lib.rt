@@ -11,21 +11,24 @@ pub struct Boxes<'a> {
     pub all: &'a [f32],
 }
 
-// How many whole boxes the list has. Up to three floats after the last belong to no box.
-pub fn count<'a>(boxes: Boxes<'a>) -> usize
-    ensures { result ≡ count_of boxes.entry.all.now }
-{
-    count_aabbs(boxes.all)
+impl<'a> Boxes<'a> {
+    // How many whole boxes the list has. Up to three floats after the last belong to no box.
+    pub fn count(self) -> usize
+        ensures { result ≡ count_of self.entry.all.now }
+    {
+        count_aabbs(self.all)
+    }
+
+    // The box at an index. An index that is not below the count is refused.
+    pub fn box_at(self, index: usize) -> Result<Aabb2, Refusal>
+        ensures { result ≡ from_aabbs_of self.entry.all.now index }
+    {
+        from_aabbs(self.all, index)
+    }
 }
 
-// The box at an index. An index that is not below the count is refused.
-pub fn box_at<'a>(boxes: Boxes<'a>, index: usize) -> Result<Aabb2, Refusal>
-    ensures { result ≡ from_aabbs_of boxes.entry.all.now index }
-{
-    from_aabbs(boxes.all, index)
-}
-
-// The same two for callers that have the list alone. The work is done here, so that the functions over a view stay thin.
+// The same two for callers that have the list alone: C has no view. aabb3_list has them for six floats: what differs is the pattern's names, and what
+// is shared is crate flat.
 pub fn count_aabbs(all: &[f32]) -> usize
     ensures { result ≡ count_of all.now }
 {
@@ -37,15 +40,13 @@ pub fn from_aabbs(all: &[f32], index: usize) -> Result<Aabb2, Refusal>
     ensures { result ≡ from_aabbs_of all.now index }
 {
     let (boxes, _) = all.as_chunks::<4>();
-    match boxes.get(index) {
-        Some(&[min_x, min_y, max_x, max_y]) => Ok(Aabb2 {
-            min_x,
-            min_y,
-            max_x,
-            max_y,
-        }),
-        None => Err(Refusal::Index),
-    }
+    let &[min_x, min_y, max_x, max_y] = boxes.get(index).ok_or(Refusal::Index)?;
+    Ok(Aabb2 {
+        min_x,
+        min_y,
+        max_x,
+        max_y,
+    })
 }
 
 // The list's first box.

@@ -1,4 +1,5 @@
-// How far a box of space is from a point, and whether it may be near another box.
+// How far a box of space is from a point, and whether it may be near another box. A box and a point stand side by side as parameters, as in the
+// source, in C and in ./ask: a struct of the two would be made by each caller and taken apart at once.
 #![tactic(auto)]
 
 ghost use Rattle.std.specs.Prelude.{◌≡◌};
@@ -6,11 +7,11 @@ ghost use Rattle.aabb3_distance.specs.Distance.{square_of, min_sq_dist_to_point3
 
 use types::{Aabb3, Range, Refusal, Vec3};
 
-// The square of how far a coordinate is moved to lie between low and high.
-fn square(low: f32, high: f32, at: f32) -> f32
-    ensures { result ≡ square_of low high at }
+// The square of how far a coordinate is moved to lie in a range.
+fn square(range: Range, at: f32) -> f32
+    ensures { result ≡ square_of range.low range.high at }
 {
-    let d = at - float::min(float::max(at, low), high);
+    let d = at - float::min(float::max(at, range.low), range.high);
     d * d
 }
 
@@ -18,9 +19,7 @@ fn square(low: f32, high: f32, at: f32) -> f32
 pub fn min_sq_dist_to_point3(b: Aabb3, p: Vec3) -> f32
     ensures { result ≡ min_sq_dist_to_point3_of b p }
 {
-    0.0 + square(b.min_x, b.max_x, p.x)
-        + square(b.min_y, b.max_y, p.y)
-        + square(b.min_z, b.max_z, p.z)
+    0.0 + square(b.x_range(), p.x) + square(b.y_range(), p.y) + square(b.z_range(), p.z)
 }
 
 // Whether the gap between two ranges is no more than threshold. A range that is not ordered is refused.
@@ -36,20 +35,7 @@ fn near(a: Range, b: Range, threshold: f32) -> Result<bool, Refusal>
 fn ranges(b: Aabb3) -> [Range; 3]
     ensures { result ≡ ranges_of b }
 {
-    [
-        Range {
-            low: b.min_x,
-            high: b.max_x,
-        },
-        Range {
-            low: b.min_y,
-            high: b.max_y,
-        },
-        Range {
-            low: b.min_z,
-            high: b.max_z,
-        },
-    ]
+    [b.x_range(), b.y_range(), b.z_range()]
 }
 
 // No where the boxes are further apart than threshold in some dimension, else yes. The first dimension with a no or a refusal decides.

@@ -1,4 +1,5 @@
-// Boxes of space made from points and from other boxes.
+// Boxes of space made from points and from other boxes. A box, a point and eps stand side by side as parameters, as in the source, in C and in
+// ./ask: a struct of them would be made by each caller and taken apart at once.
 #![tactic(auto)]
 
 ghost use Rattle.std.specs.Prelude.{◌≡◌};
@@ -20,7 +21,8 @@ pub fn from_two_aabbs(a: Aabb3, b: Aabb3) -> Aabb3
     }
 }
 
-// The cube around a point, eps away on each side. Any eps is taken.
+// The cube around a point, eps away on each side. Any eps is taken. Written out, as crate aabb2_from has `around` for two components: a trait
+// over both boxes for so few lines would be no plainer.
 pub fn set_as_cube(p: Vec3, eps: f32) -> Aabb3
     ensures { result ≡ set_as_cube_of p eps }
 {

@@ -19,17 +19,15 @@ pub fn from_aabbs(all: &[f32], index: usize) -> Result<Aabb3, Refusal>
     ensures { result ≡ from_aabbs_of all.now index }
 {
     let (boxes, _) = all.as_chunks::<6>();
-    match boxes.get(index) {
-        Some(&[min_x, min_y, min_z, max_x, max_y, max_z]) => Ok(Aabb3 {
-            min_x,
-            min_y,
-            min_z,
-            max_x,
-            max_y,
-            max_z,
-        }),
-        None => Err(Refusal::Index),
-    }
+    let &[min_x, min_y, min_z, max_x, max_y, max_z] = boxes.get(index).ok_or(Refusal::Index)?;
+    Ok(Aabb3 {
+        min_x,
+        min_y,
+        min_z,
+        max_x,
+        max_y,
+        max_z,
+    })
 }
 
 // The list's first box.

@@ -1,4 +1,4 @@
-// Whether a box has a point, and whether two boxes touch.
+// Whether a box has a point, and whether two boxes touch. A box and a point stand side by side, as in the source, in C and in ./ask.
 #![tactic(auto)]
 
 ghost use Rattle.std.specs.Prelude.{◌≡◌};

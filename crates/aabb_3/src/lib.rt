@@ -1,4 +1,4 @@
-// Upright boxes of space: the plane's routines of crate aabb at three dimensions, over the same slabs.
+// Upright boxes of space: the plane's routines of crate aabb at three dimensions, over the same slabs, and with the same parameters side by side.
 #![tactic(auto, unfolding(crate::specs::Clip::intersections_against_line_of, crate::specs::Clip::intersections_against_ray_of, crate::specs::Inside::is_include_point_of, slabs::specs::Clip::clip_over, slabs::specs::Clip::narrow_all))]
 
 ghost use Rattle.std.specs.Prelude.{◌≡◌};
@@ -48,16 +48,16 @@ pub fn intersections_against_ray(b: Aabb3, origin: Vec3, direction: Vec3) -> Int
     ensures answers { result ≡ intersections_against_ray_of b origin direction }
     ensures means { IsRayAnswer (slabs b origin direction) result }
 {
-    intersections_against_line(b, origin, direction).ahead()
+    slabs::clip_ahead(&slabs(b, origin, direction))
 }
 
 // Whether p is in the box, faces included. A NaN is outside.
 pub fn is_include_point(b: Aabb3, p: Vec3) -> bool
     ensures { result ≡ is_include_point_of b p }
 {
-    slabs::within(b.min_x, b.max_x, p.x)
-        & slabs::within(b.min_y, b.max_y, p.y)
-        & slabs::within(b.min_z, b.max_z, p.z)
+    slabs::within(b.x_range(), p.x)
+        & slabs::within(b.y_range(), p.y)
+        & slabs::within(b.z_range(), p.z)
 }
 
 // Written out, as in the plane: over a list of components it would be no plainer.
@@ -65,8 +65,8 @@ pub fn center(b: Aabb3) -> Vec3
     ensures { result ≡ center_of b }
 {
     Vec3 {
-        x: (b.min_x + b.max_x) * 0.5,
-        y: (b.min_y + b.max_y) * 0.5,
-        z: (b.min_z + b.max_z) * 0.5,
+        x: b.x_range().middle(),
+        y: b.y_range().middle(),
+        z: b.z_range().middle(),
     }
 }

@@ -15,7 +15,7 @@ const LINE: usize = 4;
 // How many its result has: `width` of the definitions.
 const RESULT: usize = 3;
 
-// 1 and the interval, or three zeros.
+// 1 and the interval, or three zeros: a list of floats with a 1 or a 0 first is the form in which it was asked for.
 fn encoded(i: Interval) -> [f32; RESULT]
     ensures { result ≡ encoded_of i }
 {

@@ -52,6 +52,10 @@ module _ {P : Type 0} (dot : P → P → Float) where
   unfoldable pub undefined_on : List P → List P → P → Bool
   undefined_on ps qs axis = list_any is_nan (projections ps axis) || list_any is_nan (projections qs axis)
 
+  -- the range of the projections on an axis, refused where one is NaN
+  unfoldable pub span_of : List P → P → Result Range Refusal
+  span_of ps axis = cond (list_any is_nan (projections ps axis)) (Err NanProjection) (Ok (range_of (projections ps axis)))
+
   -- the same search where a NaN is refused: the first axis on which a projection is NaN, NanProjection, or that separates the corners, no
   unfoldable pub verdict_of : List P → List P → List P → Result Bool Refusal
   verdict_of ps qs [] = Ok true

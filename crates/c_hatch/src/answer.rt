@@ -1,4 +1,4 @@
-// What a read of a hatch list answers, as C sees it.
+// What a read of a hatch list answers, as C sees it: a status beside the value, as in c_answers.
 ghost use Rattle.std.specs.Prelude.{◌≡◌};
 
 use c_answers::ANSWERED;
@@ -18,7 +18,7 @@ pub struct ReadAnswer {
     pub place: usize,
 }
 
-// By cases: three lookups, one of them for the place, are no plainer.
+// By cases: each field by a call of its own would be no plainer.
 impl From<Result<Read, RefusalAt>> for ReadAnswer {
     ghost use Rattle.c_hatch.specs.Answer.{read_answer_of};
 

@@ -1,4 +1,5 @@
-// Lengths, directions and positions along an edge.
+// Lengths, directions and positions along an edge. An edge is given by its two ends, as in the source, in C and in ./ask: a struct of the two
+// would be made by each caller and taken apart at once.
 #![tactic(auto)]
 
 ghost use Rattle.std.specs.Prelude.{◌≡◌};
@@ -25,10 +26,7 @@ pub fn unit_edge_vector(s: Vec2, e: Vec2) -> Vec2
 {
     let d = e - s;
     let inverse = 1.0 / vec2::length(d);
-    Vec2 {
-        x: d.x * inverse,
-        y: d.y * inverse,
-    }
+    d * inverse
 }
 
 // The point at a ratio from p0, at 0, to p1, at 1.
@@ -64,7 +62,8 @@ fn slack(s0: Vec2, e0: Vec2, s1: Vec2, e1: Vec2) -> f32
         * f32::EPSILON
 }
 
-// Whether the range of a and b lies below that of c and d, by more than the slack.
+// Whether the range of a and b lies below that of c and d, by more than the slack. The four are coordinates of two edges in no order, so no `Range`
+// has them.
 fn below(slack: f32, a: f32, b: f32, c: f32, d: f32) -> bool
     ensures { result ≡ below_of slack a b c d }
 {

@@ -1,4 +1,5 @@
-// The nearest point of an edge.
+// The nearest point of an edge. An edge is given by its two ends, as in the source, in C and in ./ask: a struct of the two would be made by
+// each caller and taken apart at once.
 #![tactic(auto)]
 
 ghost use Rattle.std.specs.Prelude.{◌≡◌};
@@ -26,10 +27,7 @@ pub fn nearest_origin(s: Vec2, e: Vec2) -> OnEdge
     if a == 0.0 {
         return OnEdge {
             ratio: 0.5,
-            point: Vec2 {
-                x: (s.x + e.x) * 0.5,
-                y: (s.y + e.y) * 0.5,
-            },
+            point: (s + e) * 0.5,
         };
     }
     let b = d.dot(s);

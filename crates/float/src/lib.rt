@@ -51,7 +51,8 @@ pub fn max(a: f32, b: f32) -> f32
     }
 }
 
-// Low below low, high above high, and else x itself, a NaN too.
+// Low below low, high above high, and else x itself, a NaN too. Two bounds, as the standard library's clamp takes them: crate types, which has
+// `Range`, stands above this one.
 pub fn clamp(x: f32, low: f32, high: f32) -> f32
     ensures { result ≡ clamp_of x low high }
 {

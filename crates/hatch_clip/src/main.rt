@@ -12,7 +12,7 @@ const BYTES: usize = 64008;
 const REPORT: usize = 54014;
 
 // Reads until the buffer is full or the input ends; the answer is how many bytes. `read_exact` fails where the input ends first, and
-// `read_to_end` takes a list on the heap.
+// `read_to_end` takes a list on the heap, which the program does without.
 fn read_all(from: &mut impl Read, buffer: &mut [u8]) -> io::Result<usize>
     ensures { IfOk result (λ n. n ≤ length buffer.old) }
 {

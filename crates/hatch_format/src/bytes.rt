@@ -1,4 +1,5 @@
 // Numbers in a list of bytes, little-endian, each from the byte at which the format has it.
+// The format names bytes: the place beside a list is the format's, and no count that a caller keeps.
 ghost use Rattle.std.specs.Prelude.{◌≡◌, ◌+◌, ◌<◌, ◌≤◌, length};
 ghost use Rattle.lists.specs.Places.{upto};
 ghost use Rattle.hatch_format.specs.Bytes.{half_at, word_at, word_from};
@@ -22,19 +23,18 @@ fn word(bytes: &[u8], at: usize) -> u32
 
 // Eight 32-bit numbers, one after the other.
 #[tactic(auto, unfolding(lists::specs::Places::upto))]
-fn words(bytes: &[u8], at: usize) -> [u32; 8]
-    requires { at + 32 ≤ length bytes.now }
-    ensures { result ≡ upto (word_from bytes.now at) 8 }
+fn words(bytes: &[u8; 32]) -> [u32; 8]
+    ensures { result ≡ upto (word_from bytes.now 0) 8 }
 {
     [
-        word(bytes, at),
-        word(bytes, at + 4),
-        word(bytes, at + 8),
-        word(bytes, at + 12),
-        word(bytes, at + 16),
-        word(bytes, at + 20),
-        word(bytes, at + 24),
-        word(bytes, at + 28),
+        word(bytes, 0),
+        word(bytes, 4),
+        word(bytes, 8),
+        word(bytes, 12),
+        word(bytes, 16),
+        word(bytes, 20),
+        word(bytes, 24),
+        word(bytes, 28),
     ]
 }
 
@@ -43,13 +43,12 @@ fn words(bytes: &[u8], at: usize) -> [u32; 8]
 pub fn record_words(bytes: &[u8], at: usize) -> Option<[u32; 8]>
     ensures { result ≡ record_words_of bytes.now at }
 {
-    if bytes.len() < 32 || bytes.len() - 32 < at {
-        return None;
-    }
-    Some(words(bytes, at))
+    let record = bytes.get(at..)?.first_chunk::<32>()?;
+    Some(words(record))
 }
 
-// The same, for a caller that takes zeros where the bytes end before it does.
+// The same, for a caller that takes zeros where the bytes end before it does, or that has a whole record. It stays beside `record_words`: a function
+// that could not fail still cannot.
 #[tactic(auto, unfolding(crate::specs::Decode::record_words_of, crate::specs::Decode::record_bits_of))]
 pub fn record_bits(bytes: &[u8], at: usize) -> [u32; 8]
     ensures { result ≡ record_bits_of bytes.now at }

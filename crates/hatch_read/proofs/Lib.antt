@@ -2,3 +2,4 @@ pub mod Floats
 pub mod Loading
 pub mod Reading
 pub mod Figures
+pub mod Named

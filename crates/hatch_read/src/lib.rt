@@ -35,47 +35,42 @@ pub struct Record {
     pub direction: Vec2,
 }
 
-// The record at a byte, if the bytes do not end before it does.
+// By the bits of its floats.
+impl From<[u32; 8]> for Record {
+    ghost from_gives = { λ bits r. r ≡ record_of bits };
+
+    fn from(bits: [u32; 8]) -> Record {
+        let [min_x, min_y, max_x, max_y, x, y, dx, dy] = bits.map(f32::from_word);
+        Record {
+            face: Aabb2 {
+                min_x,
+                min_y,
+                max_x,
+                max_y,
+            },
+            point: Vec2 { x, y },
+            direction: Vec2 { x: dx, y: dy },
+        }
+    }
+}
+
+// The record at a byte, if the bytes do not end before it does. The place is the format's, as in hatch_format.
 pub fn record_at(bytes: &[u8], at: usize) -> Option<Record>
     ensures { result ≡ option_map record_of (record_words_of bytes.now at) }
 {
     let bits = hatch_format::record_words(bytes, at)?;
-    Some(Record {
-        face: Aabb2 {
-            min_x: f32::from_word(bits[0]),
-            min_y: f32::from_word(bits[1]),
-            max_x: f32::from_word(bits[2]),
-            max_y: f32::from_word(bits[3]),
-        },
-        point: Vec2 {
-            x: f32::from_word(bits[4]),
-            y: f32::from_word(bits[5]),
-        },
-        direction: Vec2 {
-            x: f32::from_word(bits[6]),
-            y: f32::from_word(bits[7]),
-        },
-    })
+    Some(Record::from(bits))
 }
 
-// Its floats alone, for a caller that takes zeros where the bytes end before it does.
+// Its floats alone, for a caller that takes zeros where the bytes end before it does. It stays beside `record_at`: a function that could not fail
+// still cannot.
 pub fn record_floats(bytes: &[u8], at: usize) -> [f32; 8]
     ensures { result ≡ map float_of (record_bits_of bytes.now at) }
 {
-    let bits = hatch_format::record_bits(bytes, at);
-    [
-        f32::from_word(bits[0]),
-        f32::from_word(bits[1]),
-        f32::from_word(bits[2]),
-        f32::from_word(bits[3]),
-        f32::from_word(bits[4]),
-        f32::from_word(bits[5]),
-        f32::from_word(bits[6]),
-        f32::from_word(bits[7]),
-    ]
+    hatch_format::record_bits(bytes, at).map(f32::from_word)
 }
 
-// The header, for a list of `room` entries, which has to hold eight floats a record.
+// The header, for another list of `room` entries, which has to hold eight floats a record.
 #[tactic(auto, using(hatch_format::proofs::Records::held), unfolding(crate::specs::Read::with_room))]
 fn head_within(mark: &[u8], bytes: &[u8], room: usize) -> Result<Head, RefusalAt>
     ensures { result ≡ with_room room (head_of mark.now rows bytes.now) }
@@ -87,21 +82,28 @@ fn head_within(mark: &[u8], bytes: &[u8], room: usize) -> Result<Head, RefusalAt
     Ok(head)
 }
 
-// Fills the first entries, eight for each record. Every record is there; with the way out for one that is not, LLVM takes the records one
-// after the other, and without it four together, in twice the time. The entries are stored by their places: what `chunks_exact_mut` leaves in a
-// list is not known afterwards.
-#[tactic(auto, using(crate::proofs::Loading::filled_none, crate::proofs::Loading::filled_more, crate::proofs::Loading::filled_all, hatch_format::proofs::Records::record_not_missing))]
-fn load<E: Entry>(bytes: &[u8], width: usize, count: usize, out: &mut [E])
-    requires { Holds width count bytes.now × (8 * count ≤ length out.old) }
-    ensures { out.new ≡ written (map E.of_bits (patterns_of width bytes.now count)) out.old }
+// Fills the first entries, eight for each record. Each eight is a part of the list, by its place: what `chunks_exact_mut` leaves in a list is
+// not known afterwards.
+#[tactic(auto, using(crate::proofs::Loading::filled_all, hatch_format::proofs::Records::left_some, hatch_format::proofs::Records::left_none))]
+fn load<E: Entry>(bytes: &[u8], head: Head, out: &mut [E])
+    requires { Holds head.row.width head.count bytes.now × (8 * head.count ≤ length out.old) }
+    ensures { out.new ≡ written (map E.of_bits (patterns_of head.row.width bytes.now head.count)) out.old }
 {
-    for i in 0..count {
-        let Some(bits) = hatch_format::record_words(bytes, RECORDS_AT + width * i) else {
-            return;
-        };
-        for j in 0..8 {
-            out[8 * i + j] = E::from_word(bits[j]);
-        }
+    for (i, record) in bytes[RECORDS_AT..].chunks_exact(head.row.width).enumerate() {
+        let bits = hatch_format::record_bits(record, 0);
+        put_record(&mut out[8 * i..8 * i + 8], bits);
+    }
+}
+
+// The entries of a record, by the bits of its floats. They are counted, since no clause says what a `zip` leaves in a list. `bits.map(E::from_word)`
+// is not taken by the borrow checker, as the function's result names a type that its argument does not.
+#[tactic(auto, using(crate::proofs::Loading::put_more))]
+fn put_record<E: Entry>(out: &mut [E], bits: [u32; 8])
+    requires { length out.old ≡ 8 }
+    ensures { out.new ≡ map E.of_bits bits }
+{
+    for (j, entry) in out.iter_mut().enumerate() {
+        *entry = E::from_word(bits[j]);
     }
 }
 
@@ -111,7 +113,7 @@ fn read_entries<E: Entry>(mark: &[u8], bytes: &[u8], out: &mut [E]) -> Result<Re
     ensures out_after { out.new ≡ read_leaves E.of_bits (decode_into mark.now rows (length out.old) bytes.now) out.old }
 {
     let head = head_within(mark, bytes, out.len())?;
-    load(bytes, head.row.width, head.count, out);
+    load(bytes, head, out);
     Ok(Read {
         version: head.row.version,
         count: head.count,

@@ -17,6 +17,7 @@ use hatch_format::{HSL, RECORDS_AT};
 use types::Refusal;
 
 // Refuses too many records, then a list that is too short for them. Else puts the header and answers how many bytes the file has.
+// `count` is the number of the records, which are another list.
 #[tactic(auto, unfolding(crate::specs::Write::size_of, lists::specs::Lent::leaves))]
 fn begin(out: &mut [u8], count: usize) -> Result<usize, Refusal>
     ensures value { result ≡ size_of version_one_of count (length out.old) }

@@ -1,6 +1,6 @@
 -- A list by its entries. Assumes nothing.
 use mathlib.Core.Path.{◌≡◌, refl, sym, ap, ◌∙◌}
-use mathlib.Core.List.{List, [], ◌∷◌, map}
+use mathlib.Core.List.{List, [], ◌∷◌, ◌++◌, map}
 use Prim.Native.Nat.{ℕ, zero, suc, ◌<◌}
 use native.Mathlib.Decide.{dec_le}
 use native.Mathlib.Omega.{arith}
@@ -25,3 +25,10 @@ get_d_mapped f d e (x ∷ l) (suc i) h = get_d_mapped f d e l i (omega arith)
 -- a list whose entries are e 0, e 1, .. is that list
 pub listed : {A : Type 0} (d : A) (e : ℕ → A) (s : List A) → ((j : ℕ) → j < length s → get_or s j d ≡ e j) → s ≡ upto e (length s)
 listed d e s h = ext_get_or d s (upto e (length s)) (sym (length_upto e (length s))) λ j g. h j g ∙ sym (get_d_upto e d (length s) j g)
+
+-- the same entries make the same list
+pub upto_same : {A : Type 0} (f g : ℕ → A) (n : ℕ) → ((j : ℕ) → j < n → f j ≡ g j) → upto f n ≡ upto g n
+unfolding upto
+upto_same f g zero h = refl
+upto_same f g (suc n) h =
+    ap (λ (s : List _). s ++ (f n ∷ [])) (upto_same f g n λ j l. h j (omega arith)) ∙ ap (λ (x : _). upto g n ++ (x ∷ [])) (h n (omega arith))

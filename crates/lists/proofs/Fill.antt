@@ -1,8 +1,8 @@
 -- A loop that fills a list from the front, an entry or several a turn. Assumes nothing.
 use mathlib.Core.Path.{◌≡◌, refl, sym, ap, ◌∙◌}
-use mathlib.Core.List.{List, [], ◌∷◌, ◌++◌, append_assoc}
+use mathlib.Core.List.{List, [], ◌∷◌, ◌++◌, append_assoc, append-nil}
 use Prim.Native.Nat.{ℕ, zero, suc, ◌+◌, ◌<◌, ◌≤◌}
-use native.Mathlib.Nat.{add-zero}
+use native.Mathlib.Nat.{add-zero, add-suc}
 use native.Mathlib.Numerals.{add-one}
 use native.Mathlib.Omega.{arith}
 use lib.ListN.{length, set, take, drop, length-append, length-drop}
@@ -43,8 +43,17 @@ unfolding upto
 length_upto f zero = refl
 length_upto f (suc n) = length-append (upto f n) (f n ∷ []) ∙ omega (arith, length_upto f n)
 
--- with f k stored in turn k, the list is `upto f n ++ drop n l` after n turns
 module _ {A : Type 0} (f : ℕ → A) where
+  -- with f k stored in turn k, the list is `upto f n ++ drop n l` after n turns
   pub fill_more : (n : ℕ) (l : List A) → n < length l → set (upto f n ++ drop n l) n (f n) ≡ upto f (n + 1) ++ drop (n + 1) l
   unfolding upto
   fill_more n l h = store_next (upto f n) l n (f n) (length_upto f n) h ∙ sym (rw add-one refl)
+
+  -- the first m of a list by its places, and n more
+  pub upto_join : (m n : ℕ) → upto f m ++ upto (λ (j : ℕ). f (m + j)) n ≡ upto f (m + n)
+  unfolding upto
+  upto_join m zero = append-nil (upto f m) ∙ ap (upto f) (sym (add-zero m))
+  upto_join m (suc n) =
+      sym (append_assoc (upto f m) (upto (λ (j : ℕ). f (m + j)) n) (f (m + n) ∷ []))
+      ∙ ap (λ (s : List A). s ++ (f (m + n) ∷ [])) (upto_join m n)
+      ∙ ap (upto f) (sym (add-suc m n))

@@ -1,3 +1,4 @@
 pub mod Entries
 pub mod Fill
 pub mod Lent
+pub mod Named

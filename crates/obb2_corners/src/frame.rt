@@ -3,7 +3,7 @@ ghost use Rattle.std.specs.Prelude.{◌≡◌};
 
 use types::{Obb2, Vec2};
 
-// The centre and the half edges. One `Frame` for the plane and for space would hold its edges as an array: then u and v lose their names.
+// The centre and the half edges. One `Frame` for the plane and for space would hold its edges as an array, and u and v would lose their names.
 #[derive(Clone, Copy, Debug, PartialEq)]
 pub struct Frame {
     pub c: Vec2,

@@ -6,25 +6,26 @@ ghost use Rattle.obb2_intersect.specs.Intersect.{across_of};
 ghost use Rattle.obb2_intersect.specs.Promise.{IsIntersectAabb2Promise, IsIntersectObb2Promise};
 
 use axes::first_separating;
-use obb2_corners::{corner_points, upright_corners};
+use obb2_corners::{Frame, corner_points, upright_corners};
 use types::{Aabb2, Obb2, Vec2};
 
-// The axis at a right angle to the edge (x, y).
-fn across(x: f32, y: f32) -> Vec2
-    ensures { result ≡ across_of x y }
+// The axis at a right angle to an edge.
+fn across(e: Vec2) -> Vec2
+    ensures { result ≡ across_of e.x e.y }
 {
-    Vec2 { x: -y, y: x }
+    Vec2 { x: -e.y, y: e.x }
 }
 
 // Whether a turned and an upright box meet. Ranges whose computed ends are equal overlap.
 pub fn is_intersect_aabb2(o: Obb2, b: Aabb2) -> bool
     ensures { IsIntersectAabb2Promise o b result }
 {
+    let Frame { u, v, .. } = Frame::from(o);
     let axes = [
         Vec2 { x: 1.0, y: 0.0 },
         Vec2 { x: 0.0, y: 1.0 },
-        across(o.ux, o.uy),
-        across(o.vx, o.vy),
+        across(u),
+        across(v),
     ];
     first_separating(&corner_points(o), &upright_corners(b), &axes).is_none()
 }
@@ -33,11 +34,8 @@ pub fn is_intersect_aabb2(o: Obb2, b: Aabb2) -> bool
 pub fn is_intersect_obb2(a: Obb2, b: Obb2) -> bool
     ensures { IsIntersectObb2Promise a b result }
 {
-    let axes = [
-        across(a.ux, a.uy),
-        across(a.vx, a.vy),
-        across(b.ux, b.uy),
-        across(b.vx, b.vy),
-    ];
+    let p = Frame::from(a);
+    let q = Frame::from(b);
+    let axes = [across(p.u), across(p.v), across(q.u), across(q.v)];
     first_separating(&corner_points(a), &corner_points(b), &axes).is_none()
 }

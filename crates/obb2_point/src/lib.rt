@@ -1,7 +1,7 @@
 // A turned box and a point: whether the box includes it, and the box's point nearest to it.
 #![tactic(auto)]
 
-ghost use Rattle.std.specs.Prelude.{◌≡◌};
+ghost use Rattle.std.specs.Prelude.{◌≡◌, [], ◌∷◌};
 ghost use Rattle.std.specs.Float.Ieee.{is_nan};
 ghost use Rattle.obb2_point.specs.Point.{beyond_of, is_include_point2_of, on_edge_of, distance_of, nearer_of, chosen_of, nearest_point2_of};
 
@@ -38,7 +38,7 @@ struct Candidate {
     square: f32,
 }
 
-// The point nearest to p on the edge from s to e.
+// The point nearest to p on the edge from s to e, which crate edge2_nearest takes by its ends.
 fn on_edge(s: Vec2, e: Vec2, p: Vec2) -> Candidate
     ensures { result ≡ on_edge_of p s e }
 {
@@ -72,9 +72,10 @@ fn nearer(a: Candidate, b: Candidate) -> Candidate
 
 // The nearest of four, refused where a distance is NaN.
 #[tactic(auto, unfolding(crate::specs::Point::chosen_of))]
-fn chosen(a: Candidate, b: Candidate, c: Candidate, d: Candidate) -> Result<Vec2, Refusal>
-    ensures { result ≡ chosen_of a b c d }
+fn chosen(candidates: [Candidate; 4]) -> Result<Vec2, Refusal>
+    ensures { (a b c d : Candidate) → candidates ≡ a ∷ b ∷ c ∷ d ∷ [] → result ≡ chosen_of a b c d }
 {
+    let [a, b, c, d] = candidates;
     if nan_distance(a) | nan_distance(b) | nan_distance(c) | nan_distance(d) {
         return Err(Refusal::NanLength);
     }
@@ -90,10 +91,10 @@ pub fn nearest_point2(o: Obb2, p: Vec2) -> Result<Vec2, Refusal>
         return Ok(p);
     }
     let [a, b, c, d] = corner_points(o);
-    chosen(
+    chosen([
         on_edge(a, b, p),
         on_edge(b, c, p),
         on_edge(c, d, p),
         on_edge(d, a, p),
-    )
+    ])
 }

@@ -23,14 +23,14 @@ fn units(o: Obb3) -> [Vec3; 3]
     ensures { result ≡ units_of o }
 {
     let q = Frame::from(o);
-    [unit(q.u), unit(q.v), unit(q.w)]
+    [q.u, q.v, q.w].map(unit)
 }
 
 // The cross products of an edge of one box with the edges of the other.
 fn crosses(u: Vec3, vs: [Vec3; 3]) -> [Vec3; 3]
     ensures { result ≡ map (cross_of u) vs }
 {
-    [cross(u, vs[0]), cross(u, vs[1]), cross(u, vs[2])]
+    vs.map(|v| cross(u, v))
 }
 
 // Whether two turned boxes meet; refused where a projection is NaN on an axis that is reached. Ranges whose computed ends are equal overlap.

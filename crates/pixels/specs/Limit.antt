@@ -1,10 +1,13 @@
 -- One comparison for each coordinate of a stretch. Definitions only.
-use Rattle.std.specs.Prelude.{◌≡◌, Bool, false, ◌&&◌, ◌||◌, ℕ, suc, ◌≤◌, Float}
+use Rattle.std.specs.Prelude.{◌≡◌, Bool, false, cond, ◌&&◌, ◌||◌, ℕ, suc, ◌≤◌, Float}
 use Rattle.std.specs.Float.Ieee.{lt, le}
 use Rattle.float.specs.Rounded.{+0}
+use Rattle.float.specs.Values.{greater_of}
 use Rattle.stroke.specs.declared.axis.Axis.{Axis}
 use Rattle.stroke.specs.Walk.{at, within, most_steps}
 use Rattle.stroke.specs.Image.{on_side_of}
+use Rattle.pixels.specs.declared.limit.Choice.{Choice}
+use Rattle.pixels.specs.declared.limit.Choice.TheVariants.{AtLeast, AtMost, Below}
 
 unfoldable pub at_least : Float → Float → Bool
 at_least limit x = le limit x
@@ -14,6 +17,16 @@ at_most limit x = le x limit
 
 unfoldable pub below : Float → Float → Bool
 below limit x = lt x limit
+
+-- what a choice tests
+unfoldable pub test_of : Choice → Float → Bool
+test_of (AtLeast limit) x = at_least limit x
+test_of (AtMost limit) x = at_most limit x
+test_of (Below limit) x = below limit x
+
+-- as the code chooses: by the coordinate's direction, and by which of its range and the side ends first. What the choice is worth is `Limits`
+unfoldable pub choice_of : Axis → Float → Choice
+choice_of a side = cond (lt a.slope +0) (AtLeast (greater_of a.low +0)) (cond (lt a.high side) (AtMost a.high) (Below side))
 
 -- From step k on, `test` says whether the coordinate is in its range and on the side; and once it is not, it stays so.
 pub record Limits (test : Float → Bool) (a : Axis) (side : Float) (k : ℕ) : Type 0 where

@@ -9,7 +9,8 @@ ghost use Rattle.pixels.specs.Post.{Entry};
 use stroke::{Accepted, Axis, Image, MOST_STEPS, Walk};
 use types::Vec2;
 
-// Where a walk has come to: how many entries were made, and the position after so many steps.
+// Where a walk has come to: how many entries were made, and the position after so many steps. The two numbers differ by the steps that the walk
+// took before it came into the image.
 #[derive(Clone, Copy, Debug, PartialEq)]
 pub(crate) struct Reached {
     pub(crate) count: usize,
@@ -46,6 +47,8 @@ fn entry(image: Image, walk: Walk) -> Reached
             position,
         };
     }
+    // The loop runs over numbers, since it counts steps: the positions stand in no list. Three loops walk so, this one, `leave` and `Walk::exit`: each
+    // ends by another test and answers something else, and a closure for the test would need clauses of its own.
     for steps in 0..MOST_STEPS {
         if !walk.spans(position) || image.contains(position) {
             return Reached {

@@ -20,8 +20,8 @@ fn cut(x: f32) -> usize
     rounding::to_usize(x)
 }
 
-// The whole part of a number from 0 up. 2 ^ 20 more is an f64 whose last 32 digits stand behind the point; std's cast, which takes any
-// number, costs more.
+// The whole part of a number from 0 up. 2 ^ 20 more is an f64 whose last 32 digits stand behind the point. std's cast and crate rounding's
+// `whole_part`, which takes numbers from 1 up, cost more instructions.
 fn whole_part(x: f32) -> u32
     requires size { Size 196610 x }
     requires sign { le +0 x ≡ true }

@@ -1,4 +1,5 @@
 // The positions of a walk that lie in the image: they are one stretch of it, since each coordinate only grows or only falls.
+// Its loops run over numbers: they count entries up to a room, where there may be no list to go over, or steps.
 ghost use Rattle.std.specs.Prelude.{◌≡◌, ◌≤◌, ◌&&◌, true, cond, length, nat_le, pos};
 ghost use Rattle.std.specs.Float.{binary32};
 ghost use Rattle.std.specs.Float.Ieee.{lt, of_int};
@@ -9,17 +10,10 @@ ghost use Rattle.pixels.specs.Limit.{Limits};
 ghost use Rattle.pixels.specs.Post.{entered, inside, Stretch};
 
 use crate::course::{Course, Reached};
-use crate::limit::{AtLeast, AtMost, Below, Limit};
+use crate::limit::{AtLeast, AtMost, Below, Choice, Limit, choose};
 use crate::number::pixel_inside;
 use stroke::MOST_STEPS;
 use types::Vec2;
-
-// The end of the range or of the image.
-fn at_least_zero(x: f32) -> f32
-    ensures { result ≡ cond (lt x +0) +0 x }
-{
-    if x < 0.0 { 0.0 } else { x }
-}
 
 // The position is still in the stretch.
 fn allow<X: Limit, Y: Limit>(x: X, y: Y, p: Vec2) -> bool
@@ -72,22 +66,17 @@ impl Course {
         }
     }
 
-    // The same for the limit of the rows, chosen.
+    // The same for one limit, and the other one chosen for the rows.
     fn along_rows<const WRITE: bool, X: Limit>(self, list: &mut [u32], room: usize, x: X) -> Reached
         requires room { WRITE ≡ true → room ≤ length list.old }
         requires lies { inside self.image.width self.image.height self.walk.x self.walk.y self.first.steps ≡ true }
         requires x { Limits (X.test x) self.walk.x (of_int binary32 (pos self.image.width)) self.first.steps }
         ensures { Stretch WRITE self.image.width self.image.height self.walk.x self.walk.y room result list.old list.new }
     {
-        let axis = self.walk.y;
-        let side = self.image.height as f32;
-        if axis.slope < 0.0 {
-            let low = at_least_zero(axis.low);
-            self.run::<WRITE, X, AtLeast>(list, room, x, AtLeast(low))
-        } else if axis.high < side {
-            self.run::<WRITE, X, AtMost>(list, room, x, AtMost(axis.high))
-        } else {
-            self.run::<WRITE, X, Below>(list, room, x, Below(side))
+        match choose(self.walk.y, self.image.height as f32) {
+            Choice::AtLeast(low) => self.run::<WRITE, X, AtLeast>(list, room, x, AtLeast(low)),
+            Choice::AtMost(high) => self.run::<WRITE, X, AtMost>(list, room, x, AtMost(high)),
+            Choice::Below(end) => self.run::<WRITE, X, Below>(list, room, x, Below(end)),
         }
     }
 
@@ -99,15 +88,10 @@ impl Course {
         if !self.is_inside(self.first.position) {
             return self.first;
         }
-        let axis = self.walk.x;
-        let side = self.image.width as f32;
-        if axis.slope < 0.0 {
-            let low = at_least_zero(axis.low);
-            self.along_rows::<WRITE, AtLeast>(list, room, AtLeast(low))
-        } else if axis.high < side {
-            self.along_rows::<WRITE, AtMost>(list, room, AtMost(axis.high))
-        } else {
-            self.along_rows::<WRITE, Below>(list, room, Below(side))
+        match choose(self.walk.x, self.image.width as f32) {
+            Choice::AtLeast(low) => self.along_rows::<WRITE, AtLeast>(list, room, AtLeast(low)),
+            Choice::AtMost(high) => self.along_rows::<WRITE, AtMost>(list, room, AtMost(high)),
+            Choice::Below(end) => self.along_rows::<WRITE, Below>(list, room, Below(end)),
         }
     }
 

@@ -1,4 +1,5 @@
-// The entries of a stroke's walk over an image, with the closing entry and without it.
+// The entries of a stroke's walk over an image, with the closing entry and without it. The sides stand as two numbers in three functions,
+// and a stroke as its two ends, as C hands them: `Accepted::new` makes one value of them after its test.
 ghost use Rattle.std.specs.Prelude.{◌+◌, ◌≤◌, true, false, length, Ok};
 ghost use Rattle.stroke.specs.Image.{one_if_of};
 ghost use Rattle.stroke.specs.Walk.{exit};

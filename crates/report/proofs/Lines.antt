@@ -1,19 +1,16 @@
 -- The lines, one after the other, each from its record in the bytes.
-use mathlib.Core.Path.{◌≡◌, refl, sym, ap, ◌∙◌}
-use native.Mathlib.Omega.{arith}
+use mathlib.Core.Path.{◌≡◌, sym, ap, ◌∙◌}
 use mathlib.Core.List.{List, ◌++◌, map}
 use Prim.Native.Nat.{ℕ, ◌+◌, ◌*◌, ◌<◌}
 use native.Mathlib.Numerals.{add-one}
 use lib.Dec.{lit≤}
 use lib.ListN.{get_or}
 use lib.Ieee.{Float, nan}
-use Rattle.std.specs.Prelude.{Option, None, Some}
-use Rattle.std.specs.Option.{option_map}
-use Rattle.hatch_format.specs.Format.{record_place}
-use Rattle.hatch_format.specs.Decode.{float_of, record_words_of, patterns_of, Holds}
-use Rattle.hatch_format.proofs.Records.{record_pattern, file_entry}
+use Rattle.lists.specs.Places.{upto}
+use Rattle.lists.proofs.Entries.{get_d_upto}
+use Rattle.hatch_format.specs.Decode.{float_of, pattern_at_of, patterns_of}
+use Rattle.hatch_format.proofs.Records.{file_entry}
 use Rattle.hatch_read.specs.Record.{record_of}
-use Rattle.hatch_read.specs.declared.Record.{Record}
 use Rattle.text.specs.declared.Page.{Page}
 use Rattle.text.specs.Page.{Adds}
 use Rattle.text.proofs.Laws.{none, many, same}
@@ -30,16 +27,14 @@ lines_suc fs k = sym (ap (lines_of fs) (add-one k))
 pub lines_more : (fs : List Float) (k : ℕ) {p q r : Page} → Adds p (lines_of fs k) q → Adds q (line_of (k + 1) (clip_at fs k)) r → Adds p (lines_of fs (k + 1)) r
 lines_more fs k e f = same (lines_suc fs k) (many _ _ e f)
 
--- a record of the bytes is the record of that number of the whole file
-pub record_is : (width n : ℕ) (b : List ℕ) → Holds width n b → (k : ℕ) → k < n → {r : Record} → Some r ≡ option_map record_of (record_words_of b (record_place width k))
-    → r ≡ record_in (map float_of (patterns_of width b n)) k
-record_is width n b h k g {r} read = go (record_words_of b (record_place width k)) refl read
+-- the record of these bits is the record of that number of the whole file
+pub record_is : (width n : ℕ) (b : List ℕ) (k : ℕ) → k < n → {bits : List ℕ} → bits ≡ upto (λ (j : ℕ). pattern_at_of width b (8 * k + j)) 8
+    → record_of bits ≡ record_in (map float_of (patterns_of width b n)) k
+record_is width n b k g {bits} is =
+    rw (at 0 (lit≤ tt), at 1 (lit≤ tt), at 2 (lit≤ tt), at 3 (lit≤ tt), at 4 (lit≤ tt), at 5 (lit≤ tt), at 6 (lit≤ tt), at 7 (lit≤ tt))
   where
-    go : (o : Option (List ℕ)) → o ≡ record_words_of b (record_place width k) → Some r ≡ option_map record_of o → r ≡ record_in (map float_of (patterns_of width b n)) k
-    go None is e = absurd (let z : ◌≡◌ {A = ℕ} 0 1 = cc in omega arith)
-    go (Some bits) is e =
-        let same : r ≡ record_of bits = cc in
-        same ∙ rw (at 0 (lit≤ tt), at 1 (lit≤ tt), at 2 (lit≤ tt), at 3 (lit≤ tt), at 4 (lit≤ tt), at 5 (lit≤ tt), at 6 (lit≤ tt), at 7 (lit≤ tt))
-      where
-        at : (j : ℕ) → j < 8 → float_of (get_or bits j 0) ≡ get_or (map float_of (patterns_of width b n)) (8 * k + j) nan
-        at j i = ap float_of (record_pattern width n b h k g is j i) ∙ sym (file_entry width n b h k g float_of nan j i)
+    at : (j : ℕ) → j < 8 → float_of (get_or bits j 0) ≡ get_or (map float_of (patterns_of width b n)) (8 * k + j) nan
+    at j i =
+        ap (λ (s : List ℕ). float_of (get_or s j 0)) is
+        ∙ ap float_of (get_d_upto (λ (j : ℕ). pattern_at_of width b (8 * k + j)) 0 8 j i)
+        ∙ sym (file_entry width n b k g float_of nan j i)

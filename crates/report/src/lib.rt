@@ -9,6 +9,7 @@ ghost use Rattle.report.specs.Report.{shown, field_of, end_of, line_of, lines_of
 
 use bits::Entry;
 use hatch_format::{HSL, Head, RECORDS_AT};
+use hatch_read::Record;
 use slabs::Interval;
 use text::Page;
 use types::RefusalAt;
@@ -53,16 +54,14 @@ fn put_line(page: &mut Page<'_>, place: usize, t: Interval)
     }
 }
 
-// The lines of all records, places from 1. Every record is there.
-#[tactic(auto, using(hatch_format::proofs::Records::record_not_missing))]
-fn put_lines(page: &mut Page<'_>, bytes: &[u8], width: usize, count: usize)
-    requires { Holds width count bytes.now }
-    ensures { Adds page.old (lines_of (map float_of (patterns_of width bytes.now count)) count) page.new }
+// The lines of all records, places from 1.
+#[tactic(auto, using(hatch_format::proofs::Records::left_none))]
+fn put_lines(page: &mut Page<'_>, bytes: &[u8], head: Head)
+    requires { Holds head.row.width head.count bytes.now }
+    ensures { Adds page.old (lines_of (map float_of (patterns_of head.row.width bytes.now head.count)) head.count) page.new }
 {
-    for k in 0..count {
-        let Some(r) = hatch_read::record_at(bytes, RECORDS_AT + width * k) else {
-            return;
-        };
+    for (k, record) in bytes[RECORDS_AT..].chunks_exact(head.row.width).enumerate() {
+        let r = Record::from(hatch_format::record_bits(record, 0));
         let clipped = aabb::intersections_against_line(r.face, r.point, r.direction);
         put_line(page, k + 1, clipped);
     }
@@ -91,9 +90,9 @@ fn put_report(page: &mut Page<'_>, bytes: &[u8])
 {
     match hatch_format::head_of(&HSL, bytes) {
         Err(at) => put_refusal(page, at),
-        Ok(Head { row, count }) => {
-            put_opening(page, row.version, count);
-            put_lines(page, bytes, row.width, count);
+        Ok(head) => {
+            put_opening(page, head.row.version, head.count);
+            put_lines(page, bytes, head);
         }
     }
 }

@@ -1,7 +1,7 @@
 -- The bits of a rounded root: k * 2 ^ 23 + q stands for q * 2 ^ k units, where q has 24 digits.
 use mathlib.Core.Path.{◌≡◌, sym, ap, ◌∙◌}
 use mathlib.Core.Bool.{false}
-use Prim.Native.Nat.{ℕ, ◌+◌, ◌-◌, ◌*◌, ◌/◌, ◌%◌, ◌^◌, ◌≤◌, ◌<◌}
+use Prim.Native.Nat.{ℕ, ◌+◌, ◌-◌, ◌*◌, ◌%◌, ◌^◌, ◌≤◌, ◌<◌}
 use native.Mathlib.Nat.{le_refl, le_of_lt, lt_of_lt_of_le}
 use native.Mathlib.Nat.{mul_assoc, mul-pos, mul-div_cancel, mul-lt-mul_of_pos_right}
 use native.Mathlib.Omega.{arith}
@@ -14,7 +14,7 @@ use lib.Ieee.Fits.{odd-fits}
 use lib.Ieee.Positive.{positive, positive_of_value}
 use Rattle.float.specs.Units.{in_units}
 use Rattle.root.specs.Root.{nearest_root}
-use Rattle.root.specs.Steps.{Rounds, Worked}
+use Rattle.root.specs.Steps.{half, Split, Rounds, Worked}
 use Rattle.float.proofs.Units.{units_of_lem}
 use Rattle.root.proofs.Leading.{digits_after}
 use Rattle.root.proofs.Worked.{worked_scaled}
@@ -44,13 +44,7 @@ module _ (q k : ℕ) (low : 2 ^ 23 ≤ q) (high : q < 2 ^ 24) where
       let held = odd-fits binary32 25 false q k digits (le_of_lt high) under in
       rw (← packed_bits) (of_bits-to_bits binary32 (odd 25 false q k 149) held)
 
--- ---- d * 2 ^ e as n * 2 ^ 23 times a power of four: n is d where e is odd, and twice d where e is even
-abbrev pub half : ℕ → ℕ
-half e = (e - 23) / 2
-
-abbrev pub Split : ℕ → ℕ → ℕ → Type 0
-Split d e n = d * 2 ^ e ≡ n * 2 ^ 23 * (2 ^ half e * 2 ^ half e)
-
+-- ---- n is d where e is odd, and twice d where e is even
 pub split_odd : (d e : ℕ) → 24 ≤ e → (e % 2 ≡ 0 → ⊥) → Split d e d
 split_odd d e h z = go (half e) (omega arith)
   where

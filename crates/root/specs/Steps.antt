@@ -1,5 +1,5 @@
 -- What the steps of the square root hand on to each other. Definitions only.
-use Rattle.std.specs.Prelude.{◌≡◌, ℕ, ◌+◌, ◌*◌, ◌^◌, ◌≤◌, ◌<◌}
+use Rattle.std.specs.Prelude.{◌≡◌, ℕ, ◌+◌, ◌-◌, ◌*◌, ◌/◌, ◌^◌, ◌≤◌, ◌<◌}
 use Rattle.root.specs.Root.{rounded, dropped}
 use Rattle.root.specs.Digits.{HasDigits}
 
@@ -10,6 +10,14 @@ pub record Scaled (n significand exponent : ℕ) : Type 0 where
   pub high : significand < 2 ^ 24
   pub least : 24 ≤ exponent
   pub most : exponent ≤ 402
+
+-- half of how far the exponent is above 23
+abbrev pub half : ℕ → ℕ
+half e = (e - 23) / 2
+
+-- d * 2 ^ e as n * 2 ^ 23 times a power of four
+abbrev pub Split : ℕ → ℕ → ℕ → Type 0
+Split d e n = d * 2 ^ e ≡ n * 2 ^ 23 * (2 ^ half e * 2 ^ half e)
 
 -- root is the largest whole number whose square is at most n, and rest is what its square leaves of n
 pub record IsWholeRoot (n root rest : ℕ) : Type 0 where

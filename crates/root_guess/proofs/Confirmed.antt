@@ -2,17 +2,17 @@
 -- its bits is the square root.
 use mathlib.Core.Path.{◌≡◌, refl, sym, ap, ◌∙◌, subst}
 use mathlib.Core.Bool.{true}
-use Prim.Native.Nat.{ℕ, zero, suc, ◌+◌, ◌-◌, ◌*◌, ◌/◌, ◌%◌, ◌^◌, ◌≤◌, ◌<◌}
+use Prim.Native.Nat.{ℕ, zero, suc, ◌+◌, ◌-◌, ◌*◌, ◌^◌, ◌≤◌, ◌<◌}
 use native.Mathlib.Decide.{dec_le}
 use native.Mathlib.Omega.{arith}
 use lib.Dec.{T}
 use lib.Ieee.{Float, binary32, fits, of_bits, to_bits}
 use Rattle.root.specs.Root.{nearest_root, sqrt_of}
-use Rattle.root.specs.Steps.{Rounds}
+use Rattle.root.specs.Radicand.{radicand}
+use Rattle.root.specs.Steps.{Scaled, half, Split, Rounds}
 use Rattle.root.proofs.Rounding.{up, down}
 use Rattle.root.proofs.Units.{positive_root}
-use Rattle.root.proofs.Unpacked.{normal}
-use Rattle.root.proofs.Packed.{half, Split, root_float}
+use Rattle.root.proofs.Packed.{root_float}
 use Rattle.root.proofs.Cases.{positive_at}
 use Rattle.root.proofs.Patterns.{from_bits}
 
@@ -27,14 +27,11 @@ confirmed n (suc w) lo hi under over = elim (dec_le (suc w * suc w) (n * 2 ^ 23)
       subst (Rounds (n * 2 ^ 23)) next (whole (omega arith))
 ]
 
--- the root of a normal number by its bits b
-pub root_of_normal : (b n q : ℕ) → 2 ^ 23 ≤ b → b < 0x7f80_0000
-    → Split (b % 2 ^ 23 + 2 ^ 23) (b / 2 ^ 23 + 148) n → Rounds (n * 2 ^ 23) q
-    → (half (b / 2 ^ 23 + 148) * 2 ^ 23 + q < 0x7f80_0000)
-    × (of_bits binary32 (half (b / 2 ^ 23 + 148) * 2 ^ 23 + q) ≡ sqrt_of (of_bits binary32 b))
-root_of_normal b n q low high split r =
-    let s = normal b high (λ z. omega arith) in
-    let f = root_float (b % 2 ^ 23 + 2 ^ 23) (b / 2 ^ 23 + 148) n s.most split r in
+-- the root of a normal number by its bits b and its parts d and e
+pub root_of_normal : (b d e n q : ℕ) → 2 ^ 23 ≤ b → b < 0x7f80_0000 → Scaled (radicand (of_bits binary32 b)) d e → Split d e n → Rounds (n * 2 ^ 23) q
+    → (half e * 2 ^ 23 + q < 0x7f80_0000) × (of_bits binary32 (half e * 2 ^ 23 + q) ≡ sqrt_of (of_bits binary32 b))
+root_of_normal b d e n q low high s split r =
+    let f = root_float d e n s.most split r in
     let above = positive_at b (omega arith) high in
     (f.0, f.1 ∙ ap nearest_root s.value ∙ sym (positive_root (of_bits binary32 b) above))
 

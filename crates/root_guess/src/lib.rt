@@ -7,6 +7,7 @@ ghost use Rattle.std.specs.Float.Ieee.{of_bits};
 ghost use Rattle.root.specs.Root.{sqrt_of};
 
 use float::LEADING;
+use root::Parts;
 
 // One step of Newton's method: from y to a number nearer to the inverse root of twice `half`.
 fn newton_step(half: f64, y: f64) -> f64 {
@@ -40,20 +41,8 @@ fn guess(bits: u32) -> Option<usize>
 fn root_bits(bits: u32) -> Option<u32>
     ensures { IfSome result (λ root. (root < 0x7f80_0000) × (of_bits binary32 root ≡ sqrt_of (of_bits binary32 bits))) }
 {
-    if bits < LEADING {
-        return None;
-    }
-    if bits >= 0x7f80_0000 {
-        return None;
-    }
-    let significand = bits % LEADING + LEADING;
-    let exponent = bits / LEADING + 148;
-    let n = if exponent % 2 == 0 {
-        significand + significand
-    } else {
-        significand
-    };
-    let number = n as usize * LEADING as usize;
+    let parts = Parts::of_normal(bits)?;
+    let number = parts.number() as usize * LEADING as usize;
     let root = guess(bits)?;
     let square = root * root;
     // √number is below root - 1 / 2.
@@ -64,11 +53,12 @@ fn root_bits(bits: u32) -> Option<u32>
     if square + root < number {
         return None;
     }
-    Some((exponent - 23) / 2 * LEADING + root as u32)
+    Some(parts.base() + root as u32)
 }
 
 // The square root, as `root::sqrt` gives it: a guess by Newton's method, taken where whole-number squares confirm it. Where they do not, and where
-// the number is not a normal one above zero, the root's digits are worked.
+// the number is not a normal one above zero, the root's digits are worked. Both stay: a root whose digits are worked one by one is asked for, and
+// lengths that must be fast take this one.
 #[tactic(auto, using(crate::proofs::Confirmed::root_of_bits, root::proofs::Patterns::not_nan_bits))]
 pub fn sqrt(x: f32) -> f32
     ensures { result ≡ sqrt_of x }

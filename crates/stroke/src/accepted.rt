@@ -21,7 +21,7 @@ impl Accepted {
     ghost use Rattle.stroke.specs.Walk.{along_x, along_y};
     ghost use Rattle.stroke.specs.Steps.{Paced};
 
-    // The stroke, or the refusal of the first test that it does not pass.
+    // The stroke, or the refusal of the first test that it does not pass. C hands the sides and the ends so, each by itself.
     #[tactic(auto, using(crate::proofs::Images::accepted_sides))]
     pub fn new(width: usize, height: usize, p0: Vec2, p1: Vec2) -> Result<Self, RefusalAt>
         ensures image { IfOk result (λ stroke. (stroke.image.width ≡ width) × (stroke.image.height ≡ height)) }

@@ -1,7 +1,8 @@
 // A stroke's walk in one coordinate.
 ghost use Rattle.std.specs.Prelude.{◌≡◌};
 
-// Where the coordinate starts, how far it goes in a step, and the range within which the walk goes on.
+// Where the coordinate starts, how far it goes in a step, and the range within which the walk goes on. Its ends are two fields, since the
+// definitions name them in each formula.
 #[derive(Clone, Copy, Debug, PartialEq)]
 pub struct Axis {
     pub start: f32,

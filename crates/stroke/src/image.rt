@@ -1,5 +1,6 @@
 // The image over which a stroke is walked.
 ghost use Rattle.std.specs.Prelude.{◌≡◌, ◌≤◌};
+ghost use Rattle.types.specs.declared.side.TheConstants.{SIDE_MAX};
 ghost use Rattle.stroke.specs.Image.{on_side_of, in_sides_of};
 
 use types::Vec2;
@@ -9,8 +10,8 @@ use types::Vec2;
 pub struct Image {
     pub width: usize,
     pub height: usize,
-    pub ghost wide: { width ≤ 16384 },
-    pub ghost high: { height ≤ 16384 },
+    pub ghost wide: { width ≤ SIDE_MAX },
+    pub ghost high: { height ≤ SIDE_MAX },
 }
 
 // At least 0 and below the side.

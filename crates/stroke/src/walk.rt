@@ -16,7 +16,8 @@ pub struct Walk {
     pub y: Axis,
 }
 
-// The larger absolute difference between the ends.
+// The larger absolute difference between the ends. Here and in `Walk::between` the two ends stand by themselves: a struct of the two would be made
+// for the call and taken apart at once.
 pub fn step_between(p0: Vec2, p1: Vec2) -> f32
     ensures { result ≡ step_of p0 p1 }
 {
@@ -70,6 +71,7 @@ impl Walk {
         ensures { result ≡ exit self.x self.y }
     {
         let mut position = self.first();
+        // The loop runs over numbers, since it counts steps: the positions stand in no list.
         for steps in 0..MOST_STEPS {
             if !self.spans(position) {
                 return steps;

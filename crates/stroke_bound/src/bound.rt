@@ -15,8 +15,8 @@ fn most_entries(stroke: Accepted) -> usize
     by_ends.min(by_sides)
 }
 
-// Whether a list with room for so many entries, besides the closing one, is long enough by one of the two bounds. That of the sides is told
-// at once.
+// Whether a list with room for so many entries, besides the closing one, is long enough by one of the two bounds. The sides
+// are asked first: where they answer, no difference is worked out.
 pub fn is_ample(stroke: Accepted, room: usize) -> bool
     ensures { result ≡ nat_le (most_entries_of false stroke.image.width stroke.image.height stroke.p0 stroke.p1) room }
 {
@@ -24,7 +24,8 @@ pub fn is_ample(stroke: Accepted, room: usize) -> bool
 }
 
 // How many entries the stroke from p0 to p1 makes at most in an image, the closing one among them: a list of this length is never too short for
-// `overlapping_pixels_dda`, and one that is shorter by one never for `pixels_inside`.
+// `overlapping_pixels_dda`, and one that is shorter by one never for `pixels_inside`. The sides and the ends stand by themselves, as C
+// hands them: `Accepted::new` makes one value of them after its test.
 pub fn pixels_bound(width: usize, height: usize, p0: Vec2, p1: Vec2) -> Result<usize, RefusalAt>
     ensures { result ≡ pixels_bound_of width height p0 p1 }
 {

@@ -5,14 +5,16 @@ ghost use Rattle.rounded.specs.Size.{Size};
 ghost use Rattle.stroke_bound.specs.Bound.{difference_of, up_to, larger_difference_of};
 
 use stroke::Accepted;
+use types::Range;
 
 // high - low, exact and rounded up. The whole part n of the rounded difference is that number or one less: one less where high - n is above low.
 // Rounding keeps that order, so a float `high - whole` above low is so exactly; and it is exact itself where high is the larger of the two in
 // size. Where low is, -low - n is exact, and above -high in the same case.
-fn rise(low: f32, high: f32) -> usize
-    requires { (Size 65536 low × Size 65536 high) × (lt high low ≡ false) }
-    ensures { (result ≡ up_to (2 ^ 149) (difference_of low high)) × (result ≤ 131073) }
+fn rise(range: Range) -> usize
+    requires { (Size 65536 range.low × Size 65536 range.high) × (lt range.high range.low ≡ false) }
+    ensures { (result ≡ up_to (2 ^ 149) (difference_of range.low range.high)) × (result ≤ 131073) }
 {
+    let Range { low, high } = range;
     let n = rounding::to_usize(high - low);
     let whole = n as f32;
     let is_one_less = (low < high - whole) | (-high < -low - whole);
@@ -22,12 +24,16 @@ fn rise(low: f32, high: f32) -> usize
     n
 }
 
-// The difference of x and y in size, exact and rounded up.
+// The difference of x and y in size, exact and rounded up. Three contracts say the same bound on it: by each the next sum cannot overflow.
 fn rounded_up(x: f32, y: f32) -> usize
     requires { Size 65536 x × Size 65536 y }
     ensures { (result ≡ up_to (2 ^ 149) (difference_of x y)) × (result ≤ 131073) }
 {
-    if y < x { rise(y, x) } else { rise(x, y) }
+    if y < x {
+        rise(Range { low: y, high: x })
+    } else {
+        rise(Range { low: x, high: y })
+    }
 }
 
 // The larger of the differences between a stroke's ends, in x and in y.

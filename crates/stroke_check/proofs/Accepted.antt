@@ -48,6 +48,12 @@ pub record AreFloats (p q : Vec2) : Type 0 where
   pub x1 : fits binary32 q.x ≡ true
   pub y1 : fits binary32 q.y ≡ true
 
+-- The coordinates of a parameter or a field are f32, as its type says. What is known of the two coordinates of an end says more, which is
+-- not used here.
+pub floats_of : {A B C D E F : Type 0} {p q : Vec2} → (A × (fits binary32 p.x ≡ true)) × ((B × (fits binary32 p.y ≡ true)) × C)
+    → (D × (fits binary32 q.x ≡ true)) × ((E × (fits binary32 q.y ≡ true)) × F) → AreFloats p q
+floats_of of_p of_q = record { x0 = of_p.0.1; y0 = of_p.1.0.1; x1 = of_q.0.1; y1 = of_q.1.0.1 }
+
 either : (a b : Bool) → (a && b) ≡ false → (a ≡ false) ⊎ (b ≡ false)
 either true b e = inr e
 either false b e = inl refl
@@ -94,11 +100,17 @@ pub record Passed (w h : ℕ) (p q : Vec2) : Type 0 where
   pub high : h ≤ 16384
   pub stroke : Accepted p q
 
-abbrev yes : Result Unit RefusalAt
+abbrev pub yes : Result Unit RefusalAt
 yes = Ok tt
 
 not_refused : {A : Type 0} (at : RefusalAt) → ◌≡◌ {A = Result Unit RefusalAt} (Err at) yes → A
 not_refused at e = absurd (let z : ◌≡◌ {A = ℕ} 0 1 = cc in let y : ⊥ = omega arith in y)
+
+-- coordinates that are let pass have none that offends
+pub none_offends : {o : Option RefusalAt} → yes ≡ unless_offender o yes → o ≡ None
+unfolding unless_offender
+none_offends {o = Some at} e = not_refused at (sym e)
+none_offends {o = None} e = refl
 
 pub passed : {w h : ℕ} {p q : Vec2} → AreFloats p q → accept_of w h p q ≡ yes → Passed w h p q
 unfolding accept_of unless_offender sides_too_large_of

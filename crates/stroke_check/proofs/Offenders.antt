@@ -1,5 +1,5 @@
 -- Coordinates looked at one after the other: what is left to look at after the first i.
-use mathlib.Core.Path.{◌≡◌, refl, sym, ◌∙◌}
+use mathlib.Core.Path.{◌≡◌, refl, ◌∙◌}
 use mathlib.Core.Bool.{true, false, cond}
 use mathlib.Core.List.{List}
 use Prim.Native.Nat.{ℕ, suc, ◌+◌, ◌<◌, ◌≤◌}
@@ -7,11 +7,15 @@ use native.Mathlib.Numerals.{add-one}
 use lib.ListN.{length, get_or, drop, drop_of_length-le}
 use lib.Seq.{drop-cons}
 use lib.Ieee.{Float, nan}
-use Rattle.std.specs.Prelude.{None, Some}
+use Rattle.std.specs.Prelude.{Some, Result, Ok, Err}
+use Rattle.types.specs.declared.refusal.RefusalAt.{RefusalAt}
 use Rattle.types.specs.Refusal.{refusal_at}
-use Rattle.stroke_check.specs.Check.{within_limit_of, refusal_of, offender_from, first_offender_of}
+use Rattle.stroke_check.specs.Check.{within_limit_of, refusal_of, offender_from, first_offender_of, unless_offender}
 
 module _ (xs : List Float) where
+  abbrev outcome : Result Unit RefusalAt
+  outcome = unless_offender (first_offender_of xs) (Ok tt)
+
   pub record Left (i : ℕ) : Type 0 where
     pub left : first_offender_of xs ≡ offender_from i (drop i xs)
 
@@ -29,9 +33,10 @@ module _ (xs : List Float) where
     pub left_more : within_limit_of x ≡ true → Left (i + 1)
     left_more e = record { left = rw add-one (next ∙ rw e) }
 
-    pub left_found : within_limit_of x ≡ false → Some (refusal_at (refusal_of x) i) ≡ first_offender_of xs
-    left_found e = sym (next ∙ rw e)
+    pub left_found : within_limit_of x ≡ false → Err (refusal_at (refusal_of x) i) ≡ outcome
+    unfolding unless_offender
+    left_found e = rw (next, e)
 
-  pub left_end : (i : ℕ) → length xs ≤ i → Left i → None ≡ first_offender_of xs
-  unfolding offender_from
-  left_end i g l = sym (l.left ∙ rw (drop_of_length-le xs g))
+  pub left_end : (i : ℕ) → length xs ≤ i → Left i → Ok tt ≡ outcome
+  unfolding offender_from unless_offender
+  left_end i g l = rw (l.left, drop_of_length-le xs g)

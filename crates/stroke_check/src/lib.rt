@@ -1,17 +1,16 @@
 // What is tested of a stroke before it is walked, and of its coordinates before its ink is measured.
 #![tactic(auto, unfolding(crate::specs::Check::sides_too_large_of, crate::specs::Check::within_limit_of, crate::specs::Check::refusal_of, crate::specs::Check::same_ends_of, crate::specs::Check::unless_offender, crate::specs::Check::accept_of))]
 
-ghost use Rattle.std.specs.Prelude.{◌≡◌};
-ghost use Rattle.stroke_check.specs.Check.{sides_too_large_of, within_limit_of, refusal_of, first_offender_of, accept_of};
+ghost use Rattle.std.specs.Prelude.{◌≡◌, Ok};
+ghost use Rattle.stroke_check.specs.Check.{sides_too_large_of, within_limit_of, refusal_of, first_offender_of, unless_offender, accept_of};
 
-use types::{Refusal, RefusalAt, Vec2};
-
-// The longest side that an image may have.
-const SIDE_MAX: usize = 16384;
+use types::{Refusal, RefusalAt, SIDE_MAX, Vec2};
 
 // The largest size that a coordinate may have.
 const LIMIT: f32 = 65536.0;
 
+// The sides stand as two numbers here and in `accept`, and a stroke as its two ends: C hands them so, and the Image and the Accepted of crate stroke
+// are made from them after the test. Crates aabb2_raster and tiles test sides too, each among other tests of its own.
 fn sides_too_large(width: usize, height: usize) -> bool
     ensures { result ≡ sides_too_large_of width height }
 {
@@ -36,17 +35,17 @@ fn refusal_of(x: f32) -> Refusal
     }
 }
 
-// The refusal of the first of the coordinates that is not within the limit, with its place among them.
+// The first of the coordinates that is not within the limit is refused, and the refusal tells its place among them.
 #[tactic(auto, using(crate::proofs::Offenders::left_none, crate::proofs::Offenders::left_more, crate::proofs::Offenders::left_found, crate::proofs::Offenders::left_end))]
-pub fn first_offender(coordinates: &[f32]) -> Option<RefusalAt>
-    ensures { result ≡ first_offender_of coordinates.now }
+pub fn within_limits(coordinates: &[f32]) -> Result<(), RefusalAt>
+    ensures { result ≡ unless_offender (first_offender_of coordinates.now) (Ok tt) }
 {
     for (place, &x) in coordinates.iter().enumerate() {
         if !within_limit(x) {
-            return Some(refusal_of(x).at(place));
+            return Err(refusal_of(x).at(place));
         }
     }
-    None
+    Ok(())
 }
 
 // The image's sides are tested first, then the coordinates, then whether the ends are one point: +0 equals -0.
@@ -56,9 +55,7 @@ pub fn accept(width: usize, height: usize, p0: Vec2, p1: Vec2) -> Result<(), Ref
     if sides_too_large(width, height) {
         return Err(Refusal::Size.into());
     }
-    if let Some(offender) = first_offender(&[p0.x, p0.y, p1.x, p1.y]) {
-        return Err(offender);
-    }
+    within_limits(&[p0.x, p0.y, p1.x, p1.y])?;
     if p0 == p1 {
         return Err(Refusal::SameEnds.into());
     }

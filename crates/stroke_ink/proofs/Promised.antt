@@ -6,10 +6,10 @@ use native.Mathlib.Omega.{arith}
 use lib.Ieee.{Float, le}
 use Rattle.types.specs.declared.shape.Vec2.{Vec2}
 use Rattle.types.specs.declared.shape.Aabb2.{Aabb2}
-use Rattle.std.specs.Prelude.{None, Ok, Err}
+use Rattle.std.specs.Prelude.{Ok, Err}
 use Rattle.types.specs.declared.refusal.RefusalAt.{RefusalAt}
-use Rattle.stroke_check.specs.Check.{first_offender_of, coordinates}
-use Rattle.stroke_check.proofs.Accepted.{AreFloats, bounded}
+use Rattle.stroke_check.specs.Check.{first_offender_of, coordinates, unless_offender}
+use Rattle.stroke_check.proofs.Accepted.{AreFloats, yes, bounded, none_offends}
 use Rattle.stroke_ink.specs.Ink.{drawn_of, ink_of}
 use Rattle.stroke_ink.specs.Promise.{Inked, Promise}
 use Rattle.stroke_ink.proofs.Laws.{is_length, whole, missed, outside, no_length}
@@ -17,12 +17,12 @@ use Rattle.stroke_ink.proofs.Laws.{is_length, whole, missed, outside, no_length}
 pub refused : {p q : Vec2} {b : Aabb2} {at : RefusalAt} → Err at ≡ ink_of p q b → Promise p q b (Err at)
 refused e = record { answers = e; inked = λ x z. absurd (let y : ◌≡◌ {A = ℕ} 0 1 = cc in let o : ⊥ = omega arith in o) }
 
--- a stroke that does not offend, and a box in order
-module _ {p q : Vec2} {b : Aabb2} (f : AreFloats p q) (accepted : first_offender_of (coordinates p q) ≡ None)
+-- coordinates that are f32 and let pass, and a box in order
+module _ {p q : Vec2} {b : Aabb2} (f : AreFloats p q) (pass : yes ≡ unless_offender (first_offender_of (coordinates p q)) yes)
     (ox : le b.min_x b.max_x ≡ true) (oy : le b.min_y b.max_y ≡ true) where
   inked : Inked p q b (drawn_of p q b)
   inked =
-      let w = bounded f accepted in
+      let w = bounded f (none_offends pass) in
       let l = is_length w b in
       record {
         is_finite = l.is_finite;
@@ -33,5 +33,9 @@ module _ {p q : Vec2} {b : Aabb2} (f : AreFloats p q) (accepted : first_offender
         no_length = no_length w b;
       }
 
-  pub measured : {x : Float} → x ≡ drawn_of p q b → Ok x ≡ ink_of p q b → Promise p q b (Ok x)
-  measured {x} d e = record { answers = e; inked = λ y z. let same : x ≡ y = cc in subst (Inked p q b) (sym d ∙ same) inked }
+  pub measured : {x : Float} → x ≡ drawn_of p q b → Promise p q b (Ok x)
+  unfolding ink_of unless_offender
+  measured {x} d = record {
+    answers = rw (d, none_offends pass, ox, oy);
+    inked = λ y z. let same : x ≡ y = cc in subst (Inked p q b) (sym d ∙ same) inked;
+  }

@@ -1,4 +1,5 @@
 // The ink that a pen stroke leaves in an upright box: the length of what it draws there.
+// The two ends of the stroke and the box stand apart, as in C and in ./ask.
 #![tactic(auto)]
 
 ghost use Rattle.std.specs.Prelude.{◌≡◌};
@@ -6,7 +7,7 @@ ghost use Rattle.stroke_ink.specs.Ink.{bounded_of, length_over_of, drawn_of};
 ghost use Rattle.stroke_ink.specs.Promise.{Promise};
 
 use slabs::Interval;
-use stroke_check::first_offender;
+use stroke_check::within_limits;
 use types::{Aabb2, Refusal, RefusalAt, Vec2};
 
 // What an interval has of the numbers from 0 to 1. A miss stays one.
@@ -54,9 +55,7 @@ fn drawn(p0: Vec2, p1: Vec2, b: Aabb2) -> f32
 pub fn ink(p0: Vec2, p1: Vec2, b: Aabb2) -> Result<f32, RefusalAt>
     ensures { Promise p0 p1 b result }
 {
-    if let Some(offender) = first_offender(&[p0.x, p0.y, p1.x, p1.y]) {
-        return Err(offender);
-    }
+    within_limits(&[p0.x, p0.y, p1.x, p1.y])?;
     if b.min_x <= b.max_x && b.min_y <= b.max_y {
         return Ok(drawn(p0, p1, b));
     }

@@ -2,8 +2,8 @@
 use mathlib.Core.Path.{◌≡◌, refl, sym, ap, ◌∙◌, subst}
 use mathlib.Core.Bool.{false}
 use mathlib.Core.List.{List, [], ◌∷◌, ◌++◌}
-use Prim.Native.Nat.{ℕ, ◌*◌, ◌≤◌, ◌<◌}
-use native.Mathlib.Nat.{mul-le-mul}
+use Prim.Native.Nat.{ℕ, ◌+◌, ◌*◌, ◌≤◌, ◌<◌}
+use native.Mathlib.Nat.{mul-le-mul, mul-zero, zero-mul}
 use native.Mathlib.Omega.{arith}
 use lib.ListN.{length, drop}
 use Rattle.types.specs.declared.shape.Aabb2.{Aabb2}
@@ -37,6 +37,14 @@ module _ {s : Sheet} {b : Aabb2} {c k r n : ℕ} (f : Found s b c k r n) where
 
   pub count_le : n * k ≤ 268435456
   count_le = let d = sides s f.sheet_good in mul-le-mul {n₂ = 16384} {m₂ = 16384} (omega arith) (omega arith)
+
+  -- where there is a tile, its column and its row are on the sheet. No proof cites this today; it stands, since docs/PORT.md names it.
+  pub on_sheet : (n * k ≡ 0 → ⊥) → (c + k ≤ s.width) × (s.width ≤ 16384) × (r + n ≤ 16384)
+  on_sheet z =
+      let d = sides s f.sheet_good in
+      let K : k ≡ 0 → ⊥ = λ (e : k ≡ 0). z (ap (λ (x : ℕ). n * x) e ∙ mul-zero n) in
+      let N : n ≡ 0 → ⊥ = λ (e : n ≡ 0). z (ap (λ (x : ℕ). x * k) e ∙ zero-mul k) in
+      (omega arith, d.width_high, omega arith)
 
   module _ (l : List ℕ) where
     pub too_short : length l < n * k → Promise s b l (Err Room) l

@@ -3,11 +3,12 @@
 
 ghost use Rattle.std.specs.Prelude.{◌≡◌, true, false, ◌++◌, ◌+◌, ◌*◌, ◌≤◌, length, drop, MatchResult};
 ghost use Rattle.types.specs.declared.refusal.Refusal.TheVariants.{Size};
+ghost use Rattle.types.specs.declared.side.TheConstants.{SIDE_MAX};
 ghost use Rattle.tiles.specs.Tiles.{first_place, past_place_of, place_count, run, rows as rows_of};
 ghost use Rattle.tiles.specs.Answer.{sheet, bad_sheet_of, bad_coordinate_of, bad_box_of};
 ghost use Rattle.tiles.specs.Promise.{Promise};
 
-use types::{Aabb2, Refusal};
+use types::{Aabb2, Range, Refusal, SIDE_MAX};
 
 // A sheet that is not refused: `height` rows of `width` tiles of `size` by `size`.
 #[derive(Clone, Copy, Debug, PartialEq, Eq)]
@@ -17,18 +18,20 @@ struct Sheet {
     height: usize,
     ghost some_size: { 1 ≤ size },
     ghost size_high: { size ≤ 4096 },
-    ghost width_high: { width ≤ 16384 },
-    ghost height_high: { height ≤ 16384 },
+    ghost width_high: { width ≤ SIDE_MAX },
+    ghost height_high: { height ≤ SIDE_MAX },
 }
 
-// Of the sheet's columns, or of its rows, those that the box overlaps: the first, and how many.
+// Of the sheet's columns, or of its rows, those that the box overlaps: the first, and how many. Not where they end, as a `Range` of the library
+// has it, since the two counts are multiplied.
 #[derive(Clone, Copy, Debug, PartialEq, Eq)]
 struct Span {
     first: usize,
     count: usize,
 }
 
-// The numbers of the tiles that the box overlaps, rising, into the first entries of `out`; and how many they are.
+// The numbers of the tiles that the box overlaps, rising, into the first entries of `out`; and how many they are. The sheet's three numbers stand
+// by themselves, as C hands them: `Sheet::new` tests them.
 pub fn overlapping_tiles(
     b: Aabb2,
     size: usize,
@@ -42,8 +45,8 @@ pub fn overlapping_tiles(
     if bad_box(b) {
         return Err(Refusal::Coordinate);
     }
-    let columns = sheet.places(b.min_x, b.max_x, sheet.width);
-    let rows = sheet.places(b.min_y, b.max_y, sheet.height);
+    let columns = sheet.places(b.x_range(), sheet.width);
+    let rows = sheet.places(b.y_range(), sheet.height);
     let count = rows.count * columns.count;
     let is_short = out.len() < count;
     if is_short {
@@ -65,7 +68,7 @@ impl Sheet {
             (λ s. (bad_sheet_of (sheet size width height) ≡ false) × (sheet s.size s.width s.height ≡ sheet size width height))
             (λ e. (bad_sheet_of (sheet size width height) ≡ true) × (e ≡ Size)) }
     {
-        let is_bad = (size == 0) | (size > 4096) | (width > 16384) | (height > 16384);
+        let is_bad = (size == 0) | (size > 4096) | (width > SIDE_MAX) | (height > SIDE_MAX);
         if is_bad {
             return Err(Refusal::Size);
         }
@@ -76,14 +79,14 @@ impl Sheet {
         })
     }
 
-    // Of n columns or rows, those from the one that low lies in to the one that high lies in. The first is one before what `past_place` gives
-    // for low, from 0 on.
-    fn places(self, low: f32, high: f32, n: usize) -> Span
-        requires { (bad_coordinate_of low ≡ false) × (bad_coordinate_of high ≡ false) }
-        ensures { (result.first ≡ first_place self.size low) × (result.count ≡ place_count self.size n low high) }
+    // Of n columns or rows, those from the one that the range's low end lies in to the one that its high end lies in. The first is one before
+    // what `past_place` gives for the low end, from 0 on.
+    fn places(self, range: Range, n: usize) -> Span
+        requires { (bad_coordinate_of range.low ≡ false) × (bad_coordinate_of range.high ≡ false) }
+        ensures { (result.first ≡ first_place self.size range.low) × (result.count ≡ place_count self.size n range.low range.high) }
     {
-        let first = self.past_place(low).saturating_sub(1);
-        let past = self.past_place(high).min(n);
+        let first = self.past_place(range.low).saturating_sub(1);
+        let past = self.past_place(range.high).min(n);
         Span {
             first,
             count: past.saturating_sub(first),
@@ -112,7 +115,8 @@ fn bad_box(b: Aabb2) -> bool
         | bad_coordinate(b.max_y)
 }
 
-// A NaN fails each comparison, so the comparison is the one that a good coordinate passes.
+// A NaN fails each comparison, so the comparison is the one that a good coordinate passes. stroke_check has one like it, with another limit: one
+// function of both would be no shorter.
 fn bad_coordinate(x: f32) -> bool
     ensures { result ≡ bad_coordinate_of x }
 {
@@ -128,17 +132,17 @@ fn write_rows(out: &mut [u32], sheet: Sheet, columns: Span, rows: Span)
     for i in 0..rows.count {
         let at = i * columns.count;
         let first = (rows.first + i) * sheet.width + columns.first;
-        write_run(&mut out[at..at + columns.count], first);
+        write_run(&mut out[at..at + columns.count], first as u32);
     }
 }
 
-// first, first + 1, ..: a number into each entry.
+// first, first + 1, ..: a number into each entry. The numbers have 32 bits, so that a vector of LLVM's has four of them and not two.
 #[tactic(auto, using(crate::proofs::Lists::run_more, crate::proofs::Lists::run_whole))]
-fn write_run(out: &mut [u32], first: usize)
+fn write_run(out: &mut [u32], first: u32)
     requires { first + length out.old ≤ 4294967296 }
     ensures { out.new ≡ run first (length out.old) }
 {
     for (j, tile) in out.iter_mut().enumerate() {
-        *tile = (first + j) as u32;
+        *tile = first + j as u32;
     }
 }

@@ -44,7 +44,7 @@ pub enum Refusal {
 impl Refusal {
     ghost use Rattle.types.specs.Refusal.{number_of, refusal_at};
 
-    // The number by which C knows the refusal.
+    // The number by which C knows the refusal. A method and not `u32::from`: its name says which number.
     pub fn number(self) -> u32
         ensures { result ≡ number_of self }
     {
@@ -61,7 +61,8 @@ impl Refusal {
     }
 }
 
-// A refusal with its place: a stroke's coordinate, 0 to 3, or a byte of a hatch list. One that tells no place has 0.
+// A refusal with its place: a stroke's coordinate, 0 to 3, or a byte of a hatch list. One that tells no place has 0 and not a `None`: which refusals
+// tell one is known by the refusal, and C's structs have the 0.
 #[derive(Clone, Copy, Debug, PartialEq, Eq, Error)]
 #[error("{refusal}")]
 pub struct RefusalAt {

@@ -1,4 +1,4 @@
-// Arithmetic on vectors of space, by component.
+// Arithmetic on vectors of space, by component, as in the plane.
 ghost use Rattle.std.specs.Prelude.{◌≡◌};
 ghost use Rattle.types.specs.Vec3.{add_of, sub_of, scale_of, dot_of};
 

@@ -19,5 +19,6 @@ returns c =
       c.corner_points.ensures,
       c.across-2.ensures,
       c.across.ensures,
+      c.from.ensures,
     )
     at c.is_none.ensures))

@@ -21,5 +21,7 @@ returns c =
       c.across-3.ensures,
       c.across-2.ensures,
       c.across.ensures,
+      c.from-q.ensures,
+      c.from-p.ensures,
     )
     at c.is_none.ensures))

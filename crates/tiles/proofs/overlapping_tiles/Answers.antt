@@ -36,10 +36,10 @@ found :
 found c = record {
   sheet_good = ap bad_sheet_of c.in_ok-sheet.ensures.1 ∙ c.in_ok-sheet.ensures.0;
   box_good = sym c.bad_box.ensures ∙ c.if-bad_box.false;
-  c_is = c.places-columns.ensures.0;
-  k_is = c.places-columns.ensures.1;
-  r_is = c.places-rows.ensures.0;
-  n_is = c.places-rows.ensures.1;
+  c_is = rw (c.x_range.ensures) at c.places-columns.ensures.0;
+  k_is = rw (c.x_range.ensures) at c.places-columns.ensures.1;
+  r_is = rw (c.y_range.ensures) at c.places-rows.ensures.0;
+  n_is = rw (c.y_range.ensures) at c.places-rows.ensures.1;
 }
 
 -- ---- the goals
@@ -58,10 +58,10 @@ returns-then-bad_box c =
 
 -- what `places` asks of the two axes
 pub places-columns-requires : goal.places-columns-requires
-places-columns-requires c = let k = corners c.args.b (sym c.bad_box.ensures ∙ c.if-bad_box.false) in (k.min_x, k.max_x)
+places-columns-requires c = let k = corners c.args.b (sym c.bad_box.ensures ∙ c.if-bad_box.false) in rw (c.x_range.ensures) (k.min_x, k.max_x)
 
 pub places-rows-requires : goal.places-rows-requires
-places-rows-requires c = let k = corners c.args.b (sym c.bad_box.ensures ∙ c.if-bad_box.false) in (k.min_y, k.max_y)
+places-rows-requires c = let k = corners c.args.b (sym c.bad_box.ensures ∙ c.if-bad_box.false) in rw (c.y_range.ensures) (k.min_y, k.max_y)
 
 pub overflow_mul-count : goal.overflow_mul-count
 overflow_mul-count c = omega (arith, count_le (found (goal.at.overflow_mul-count c).After-places-rows))

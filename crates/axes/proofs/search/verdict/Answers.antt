@@ -1,25 +1,17 @@
--- Each axis is refused, parts the corners, or is passed.
-use Rattle.std.proofs.Common.{arith, sym, ◌∙◌}
-use Rattle.axes.proofs.Decided.{refused_here, parted_here, passed_here, passed_all}
-use Rattle.axes.proofs.Ranges.{separates_by_ranges, undefined_by_tests}
+-- A range that is refused ends the search; where no axis is left, the answer is yes.
+use Rattle.std.proofs.Common.{rules, arith, sym, ◌∙◌}
+use Rattle.axes.proofs.Decided.{first_refused, second_refused, passed_all}
 use Rattle.axes.proofs.search.verdict.Goals as goal
 
-pub returns-then-has_nan : goal.returns-then-has_nan
-returns-then-has_nan g c =
-    refused_here _ _ _ c.axis-item.result c.axis-item.is (omega arith) c.loop-axis.invariant
-    (undefined_by_tests _ _ _ _ c.has_nan.ensures c.has_nan-in-loop-axis.ensures ∙ c.if-has_nan.true)
+pub returns-in_err-span : goal.returns-in_err-span
+returns-in_err-span g c =
+    let r = first_refused _ _ _ c.axis-item.is (omega arith) c.loop-axis.invariant (sym c.in_err-span.was ∙ c.span.ensures) in
+    search (rules, r)
 
-pub returns-then-apart : goal.returns-then-apart
-returns-then-apart g c =
-    parted_here _ _ _ c.axis-item.result c.axis-item.is (omega arith) c.loop-axis.invariant
-    (undefined_by_tests _ _ _ _ c.has_nan.ensures c.has_nan-in-loop-axis.ensures ∙ c.if-has_nan.false)
-    (separates_by_ranges _ _ _ _ c.span.ensures c.span-in-loop-axis.ensures (sym c.if-apart.true ∙ c.apart.ensures))
-
-pub loop-axis-preserved : goal.loop-axis-preserved
-loop-axis-preserved g c =
-    passed_here _ _ _ c.axis-item.result c.axis-item.is (omega arith) c.loop-axis.invariant
-    (undefined_by_tests _ _ _ _ c.has_nan.ensures c.has_nan-in-loop-axis.ensures ∙ c.if-has_nan.false)
-    (separates_by_ranges _ _ _ _ c.span.ensures c.span-in-loop-axis.ensures (sym c.if-apart.false ∙ c.apart.ensures))
+pub returns-in_err-span-2 : goal.returns-in_err-span-2
+returns-in_err-span-2 g c =
+    let r = second_refused _ _ _ c.axis-item.is (omega arith) c.loop-axis.invariant (sym c.in_err-span-2.was ∙ c.span-in-loop-axis.ensures) in
+    search (rules, r)
 
 pub returns : goal.returns
 returns g c = passed_all _ _ _ (omega arith) c.loop-axis.invariant

@@ -1,5 +1,5 @@
 use Rattle.std.proofs.Common.{◌+◌, ◌<◌, false, not, nat_eq, length, sym, ◌∙◌, leb-true, leb-false, arith}
-use Rattle.stroke_check.proofs.Accepted.{passed}
+use Rattle.stroke_check.proofs.Accepted.{passed, floats_of}
 use Rattle.stroke.specs.Walk.{exit}
 use Rattle.stroke.specs.Image.{one_if_of}
 use Rattle.pixels.specs.Post.{entered}
@@ -8,13 +8,10 @@ use Rattle.pixels.proofs.Promised.{ample, walked}
 use Rattle.pixels.proofs.walk.draw.Goals.{then-is_ample-via-then-is_ample, then-is_ample-via-else-is_ample+then-has_room, then-more-list+else-is_ample+else-has_room, else-more-list}
 use Rattle.pixels.proofs.walk.draw.Goals as goal
 
--- the coordinates are f32, as fields of that type are
 pub fill-requires : goal.fill-requires
 fill-requires g c =
-    let p = c.well_formed.0.1.1.1.0.1.1 in
-    let q = c.well_formed.0.1.1.1.1.0.1.1 in
     let s = c.args.stroke in
-    let v = passed record { x0 = p.0.1; y0 = p.1.0.1; x1 = q.0.1; y1 = q.1.0.1 } s.accepted in
+    let v = passed (floats_of c.well_formed.0.1.1.1.0.1.1 c.well_formed.0.1.1.1.1.0.1.1) s.accepted in
     let made : Made s.image s.p0 s.p1 c.new-course.result = record { image_is = c.new-course.ensures.image; a_is = c.new-course.ensures.x; b_is = c.new-course.ensures.y } in
     let n = as_number (not (nat_eq g.row.CLOSING 0)) in
     elim c.then-is_ample.branch [
@@ -25,19 +22,15 @@ fill-requires g c =
 
 pub returns-then-is_ample : goal.returns-then-is_ample
 returns-then-is_ample g c =
-    let p = c.well_formed.0.1.1.1.0.1.1 in
-    let q = c.well_formed.0.1.1.1.1.0.1.1 in
     let s = c.args.stroke in
-    let v = passed record { x0 = p.0.1; y0 = p.1.0.1; x1 = q.0.1; y1 = q.1.0.1 } s.accepted in
+    let v = passed (floats_of c.well_formed.0.1.1.1.0.1.1 c.well_formed.0.1.1.1.1.0.1.1) s.accepted in
     let made : Made s.image s.p0 s.p1 c.new-course.result = record { image_is = c.new-course.ensures.image; a_is = c.new-course.ensures.x; b_is = c.new-course.ensures.y } in
     walked _ s.image.width s.image.height s.p0 s.p1 c.args.list.now v s.accepted _ _ (made_listing made _ c.args.list.now _ _ c.fill.ensures)
 
 pub returns : goal.returns
 returns g c =
-    let p = c.well_formed.0.1.1.1.0.1.1 in
-    let q = c.well_formed.0.1.1.1.1.0.1.1 in
     let s = c.args.stroke in
-    let v = passed record { x0 = p.0.1; y0 = p.1.0.1; x1 = q.0.1; y1 = q.1.0.1 } s.accepted in
+    let v = passed (floats_of c.well_formed.0.1.1.1.0.1.1 c.well_formed.0.1.1.1.1.0.1.1) s.accepted in
     let course = c.new-course.result in
     let made : Made s.image s.p0 s.p1 course = record { image_is = c.new-course.ensures.image; a_is = c.new-course.ensures.x; b_is = c.new-course.ensures.y } in
     let t = not (nat_eq g.row.CLOSING 0) in

@@ -26,19 +26,19 @@ module _ (x y : Float) (r : (Size 65536 x × Size 65536 y) × (lt y x ≡ false)
       (rise_is x y (subst T (sym f) tt) (subst T (sym g) tt) r.0.0 r.0.1 r.1)
 
 pub int_to_float-whole : goal.int_to_float-whole
-int_to_float-whole c = in_float_lem _ (le_trans (small c.args.low c.args.high c.requires c.to_usize-n.ensures) (lit≤ tt))
+int_to_float-whole c = in_float_lem _ (le_trans (small c.args.range.low c.args.range.high c.requires c.to_usize-n.ensures) (lit≤ tt))
 
 pub overflow_add-result : goal.overflow_add-result
-overflow_add-result c = omega (arith, small c.args.low c.args.high c.requires c.to_usize-n.ensures)
+overflow_add-result c = omega (arith, small c.args.range.low c.args.range.high c.requires c.to_usize-n.ensures)
 
 pub returns-then-is_one_less : goal.returns-then-is_one_less
 returns-then-is_one_less c = (
-  meets c.args.low c.args.high c.requires c.to_usize-n.ensures true c.well_formed.0.1 c.well_formed.1.0.1 c.if-is_one_less.true,
-  omega (arith, small c.args.low c.args.high c.requires c.to_usize-n.ensures),
+  meets c.args.range.low c.args.range.high c.requires c.to_usize-n.ensures true c.well_formed.0.1.1.0.1 c.well_formed.0.1.1.1.0.1 c.if-is_one_less.true,
+  omega (arith, small c.args.range.low c.args.range.high c.requires c.to_usize-n.ensures),
 )
 
 pub returns : goal.returns
 returns c = (
-  meets c.args.low c.args.high c.requires c.to_usize-n.ensures false c.well_formed.0.1 c.well_formed.1.0.1 c.if-is_one_less.false,
-  omega (arith, small c.args.low c.args.high c.requires c.to_usize-n.ensures),
+  meets c.args.range.low c.args.range.high c.requires c.to_usize-n.ensures false c.well_formed.0.1.1.0.1 c.well_formed.0.1.1.1.0.1 c.if-is_one_less.false,
+  omega (arith, small c.args.range.low c.args.range.high c.requires c.to_usize-n.ensures),
 )

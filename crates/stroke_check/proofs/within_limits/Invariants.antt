@@ -1,5 +1,5 @@
 use Rattle.stroke_check.proofs.Offenders.{Left}
-use Rattle.stroke_check.proofs.first_offender.Given as goal
+use Rattle.stroke_check.proofs.within_limits.Given as goal
 
 -- none of the coordinates before `place` offends
 abbrev pub invariant-loop-place : goal.invariant-loop-place
