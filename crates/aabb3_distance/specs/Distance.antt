@@ -5,6 +5,7 @@ use Rattle.types.specs.declared.shape.Vec3.{Vec3}
 use Rattle.types.specs.declared.shape.Range.{Range}
 use Rattle.types.specs.declared.shape.Aabb3.{Aabb3}
 use Rattle.types.specs.declared.refusal.Refusal.{Refusal}
+use Rattle.types.specs.Aabb3.{x_range_of, y_range_of, z_range_of}
 use Rattle.float.specs.Rounded.{◌⊕◌, ◌⊖◌, ◌⊗◌, +0}
 use Rattle.float.specs.Values.{min_of, max_of}
 use Rattle.range.specs.Values.{distance_to_range_of}
@@ -36,20 +37,11 @@ unless_yes_of (Ok true) second = second
 unless_yes_of (Ok false) second = Ok false
 unless_yes_of (Err refusal) second = Err refusal
 
-abbrev pub range_x_of : Aabb3 → Range
-range_x_of b = record { low = b.min_x; high = b.max_x }
-
-abbrev pub range_y_of : Aabb3 → Range
-range_y_of b = record { low = b.min_y; high = b.max_y }
-
-abbrev pub range_z_of : Aabb3 → Range
-range_z_of b = record { low = b.min_z; high = b.max_z }
-
 -- in x, y and z
 abbrev pub ranges_of : Aabb3 → List Range
-ranges_of b = range_x_of b ∷ range_y_of b ∷ range_z_of b ∷ []
+ranges_of b = x_range_of b ∷ y_range_of b ∷ z_range_of b ∷ []
 
 -- in x, y and z: Order at the first dimension reached with a range not ordered
 abbrev pub is_possible_distance_of : Aabb3 → Aabb3 → Float → Result Bool Refusal
 is_possible_distance_of a b t =
-    unless_yes_of (near_of (range_x_of a) (range_x_of b) t) (unless_yes_of (near_of (range_y_of a) (range_y_of b) t) (near_of (range_z_of a) (range_z_of b) t))
+    unless_yes_of (near_of (x_range_of a) (x_range_of b) t) (unless_yes_of (near_of (y_range_of a) (y_range_of b) t) (near_of (z_range_of a) (z_range_of b) t))
