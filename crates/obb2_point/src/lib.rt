@@ -1,7 +1,7 @@
 // A turned box and a point: whether the box includes it, and the box's point nearest to it.
 #![tactic(auto)]
 
-ghost use Rattle.std.specs.Prelude.{◌≡◌, [], ◌∷◌};
+ghost use Rattle.std.specs.Prelude.{◌≡◌};
 ghost use Rattle.std.specs.Float.Ieee.{is_nan};
 ghost use Rattle.obb2_point.specs.Point.{beyond_of, is_include_point2_of, on_edge_of, distance_of, nearer_of, chosen_of, nearest_point2_of};
 
@@ -70,12 +70,12 @@ fn nearer(a: Candidate, b: Candidate) -> Candidate
     a
 }
 
-// The nearest of four, refused where a distance is NaN.
+// The nearest of four, refused where a distance is NaN. The four are no list, since four tests with no jump between them and three comparisons are
+// plainer than two folds.
 #[tactic(auto, unfolding(crate::specs::Point::chosen_of))]
-fn chosen(candidates: [Candidate; 4]) -> Result<Vec2, Refusal>
-    ensures { (a b c d : Candidate) → candidates ≡ a ∷ b ∷ c ∷ d ∷ [] → result ≡ chosen_of a b c d }
+fn chosen(a: Candidate, b: Candidate, c: Candidate, d: Candidate) -> Result<Vec2, Refusal>
+    ensures { result ≡ chosen_of a b c d }
 {
-    let [a, b, c, d] = candidates;
     if nan_distance(a) | nan_distance(b) | nan_distance(c) | nan_distance(d) {
         return Err(Refusal::NanLength);
     }
@@ -91,10 +91,10 @@ pub fn nearest_point2(o: Obb2, p: Vec2) -> Result<Vec2, Refusal>
         return Ok(p);
     }
     let [a, b, c, d] = corner_points(o);
-    chosen([
+    chosen(
         on_edge(a, b, p),
         on_edge(b, c, p),
         on_edge(c, d, p),
         on_edge(d, a, p),
-    ])
+    )
 }
