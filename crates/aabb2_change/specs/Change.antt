@@ -3,20 +3,22 @@ use Rattle.std.specs.Prelude.{true, false, List, [], ◌∷◌, Float, Option, N
 use Rattle.std.specs.Float.{inf}
 use Rattle.std.specs.Float.Ieee.{neg}
 use Rattle.types.specs.Answer.{result_and_then}
+use Rattle.types.specs.declared.shape.Range.{Range}
 use Rattle.types.specs.declared.shape.Vec2.{Vec2}
 use Rattle.types.specs.declared.shape.Aabb2.{Aabb2}
 use Rattle.types.specs.declared.shape.Mat3.{Mat3}
+use Rattle.types.specs.Range.{length_of}
+use Rattle.types.specs.Aabb2.{x_range_of, y_range_of}
 use Rattle.types.specs.declared.refusal.Refusal.{Refusal}
 use Rattle.types.specs.declared.refusal.Refusal.TheVariants.{NoImage}
 use Rattle.float.specs.Rounded.{◌⊕◌, ◌⊖◌, ◌⊗◌, ◌⊘◌, +0, half, one}
 use Rattle.float.specs.Values.{max_of}
 use Rattle.mat3.specs.Values as mat3
 use Rattle.aabb2_from.specs.From.{from_two_aabbs_of}
-use Rattle.slabs.specs.Inside.{middle}
 use Rattle.aabb.specs.Inside.{center_of}
 
 abbrev pub max_edge_size_of : Aabb2 → Float
-max_edge_size_of b = max_of (b.max_x ⊖ b.min_x) (b.max_y ⊖ b.min_y)
+max_edge_size_of b = max_of (length_of (x_range_of b)) (length_of (y_range_of b))
 
 -- ---- the box around the images of the corners
 
@@ -71,18 +73,16 @@ to_transformation_world2unit_ortho_preserve_asp_of b =
       m22 = one;
     }
 
--- half the edge from low to high, times s
-abbrev pub reach : Float → Float → Float → Float
-reach low high s = (high ⊖ low) ⊗ half ⊗ s
+-- half the length of a range, times s
+abbrev pub reach : Range → Float → Float
+reach r s = length_of r ⊗ half ⊗ s
 
 abbrev pub scale_of : Aabb2 → Float → Aabb2
 scale_of b s =
-    record {
-      min_x = middle b.min_x b.max_x ⊖ reach b.min_x b.max_x s;
-      min_y = middle b.min_y b.max_y ⊖ reach b.min_y b.max_y s;
-      max_x = middle b.min_x b.max_x ⊕ reach b.min_x b.max_x s;
-      max_y = middle b.min_y b.max_y ⊕ reach b.min_y b.max_y s;
-    }
+    let c = center_of b in
+    let dx = reach (x_range_of b) s in
+    let dy = reach (y_range_of b) s in
+    record { min_x = c.x ⊖ dx; min_y = c.y ⊖ dy; max_x = c.x ⊕ dx; max_y = c.y ⊕ dy }
 
 abbrev pub translate_of : Aabb2 → Vec2 → Aabb2
 translate_of b t =

@@ -1,10 +1,11 @@
-// A box's size and centre, and boxes moved, scaled and transformed.
+// A box's size and centre, and boxes moved, scaled and transformed. A box is four floats, as C has it, so that what is added to its corners is added
+// by component: a vector for each corner would be made to be taken apart.
 #![tactic(auto, unfolding(crate::specs::Change::with_image_of, crate::specs::Change::transform_homogeneous_of, crate::specs::Change::with_images))]
 
 ghost use Rattle.std.specs.Prelude.{◌≡◌};
 ghost use Rattle.aabb2_from.specs.From.{from_two_aabbs_of};
 ghost use Rattle.aabb.specs.Inside.{center_of};
-ghost use Rattle.aabb2_change.specs.Change.{max_edge_size_of, transform_homogeneous_of, to_transformation_world2unit_ortho_preserve_asp_of, scale_of, translate_of, reach, corners_of, no_points_of, point_of};
+ghost use Rattle.aabb2_change.specs.Change.{max_edge_size_of, transform_homogeneous_of, to_transformation_world2unit_ortho_preserve_asp_of, scale_of, translate_of, reach, corners_of, point_of};
 
 use types::{Aabb2, Mat3, Range, Refusal, Vec2};
 
@@ -22,16 +23,12 @@ pub fn max_edge_size(b: Aabb2) -> f32
 }
 
 // The box of no points.
-fn no_points() -> Aabb2
-    ensures { result ≡ no_points_of }
-{
-    Aabb2 {
-        min_x: f32::INFINITY,
-        min_y: f32::INFINITY,
-        max_x: f32::NEG_INFINITY,
-        max_y: f32::NEG_INFINITY,
-    }
-}
+const NO_POINTS: Aabb2 = Aabb2 {
+    min_x: f32::INFINITY,
+    min_y: f32::INFINITY,
+    max_x: f32::NEG_INFINITY,
+    max_y: f32::NEG_INFINITY,
+};
 
 // A box widened to hold an image.
 fn with_image(b: Aabb2, p: Vec2) -> Aabb2
@@ -76,7 +73,7 @@ fn corners(b: Aabb2) -> [Vec2; 4]
 pub fn transform_homogeneous(b: Aabb2, m: Mat3) -> Result<Aabb2, Refusal>
     ensures { result ≡ transform_homogeneous_of b m }
 {
-    let mut wider = no_points();
+    let mut wider = NO_POINTS;
     for p in corners(b) {
         let image = mat3::transform_homogeneous(m, p).ok_or(Refusal::NoImage)?;
         wider = with_image(wider, image);
@@ -105,7 +102,7 @@ pub fn to_transformation_world2unit_ortho_preserve_asp(b: Aabb2) -> Mat3
 
 // Half the length of a range, times s.
 fn reach(range: Range, s: f32) -> f32
-    ensures { result ≡ reach range.low range.high s }
+    ensures { result ≡ reach range s }
 {
     range.length() * 0.5 * s
 }

@@ -17,7 +17,7 @@ pub fn is_include_point2(b: Aabb2, p: Vec2) -> bool
 
 // How far a coordinate lies past the nearer end of a range; negative inside.
 fn past(range: Range, at: f32) -> f32
-    ensures { result ≡ past_of range.low range.high at }
+    ensures { result ≡ past_of range at }
 {
     float::abs(at - range.middle()) - range.length() * 0.5
 }
@@ -33,7 +33,7 @@ pub fn is_intersect_square(b: Aabb2, p: Vec2, radius: f32) -> bool
 pub fn nearest_point2(b: Aabb2, p: Vec2) -> Result<Vec2, Refusal>
     ensures { result ≡ nearest_point2_of b p }
 {
-    if b.min_x <= b.max_x && b.min_y <= b.max_y {
+    if b.is_ordered() {
         return Ok(Vec2 {
             x: float::clamp(p.x, b.min_x, b.max_x),
             y: float::clamp(p.y, b.min_y, b.max_y),

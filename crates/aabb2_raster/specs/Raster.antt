@@ -1,11 +1,12 @@
 -- The pixels whose centres lie in a box, low edge in and high edge out, each operation rounded. Definitions only.
-use Rattle.std.specs.Prelude.{cond, ◌&&◌, ℕ, pos, leb, Float, Result, Ok, Err}
+use Rattle.std.specs.Prelude.{cond, ℕ, pos, Float, Result, Ok, Err}
 use Rattle.std.specs.Float.{binary32}
 use Rattle.std.specs.Float.Ieee.{of_int, to_unsigned}
 use Rattle.types.specs.declared.shape.Aabb2.{Aabb2}
 use Rattle.types.specs.declared.answer.Pixels.{Pixels}
 use Rattle.types.specs.declared.refusal.Refusal.{Refusal}
 use Rattle.types.specs.declared.refusal.Refusal.TheVariants.{Size}
+use Rattle.types.specs.Side.{sides_too_large_of}
 use Rattle.float.specs.Rounded.{◌⊖◌, +0, half}
 use Rattle.float.specs.Values.{min_of, max_of}
 use Rattle.rounding.specs.Values.{ceil_of}
@@ -22,7 +23,8 @@ end_pixel_of high side = to_unsigned 64 (min_of (ceil_of (high ⊖ half)) (of_in
 -- Size for an image side above 16,384
 unfoldable pub rasterize_of : Aabb2 → ℕ → ℕ → Result Pixels Refusal
 rasterize_of b width height =
-    cond (leb width 16384 && leb height 16384)
+    cond (sides_too_large_of width height)
+    (Err Size)
     (Ok
     (record {
       x0 = first_pixel_of b.min_x;
@@ -30,4 +32,3 @@ rasterize_of b width height =
       x1 = end_pixel_of b.max_x width;
       y1 = end_pixel_of b.max_y height;
     }))
-    (Err Size)

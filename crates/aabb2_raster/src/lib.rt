@@ -1,10 +1,10 @@
 // The pixels whose centres lie in a box.
-#![tactic(auto, unfolding(crate::specs::Raster::rasterize_of))]
+#![tactic(auto, unfolding(crate::specs::Raster::rasterize_of, types::specs::Side::sides_too_large_of))]
 
 ghost use Rattle.std.specs.Prelude.{◌≡◌, ◌≤◌};
 ghost use Rattle.aabb2_raster.specs.Raster.{first_pixel_of, end_pixel_of, rasterize_of};
 
-use types::{Aabb2, Pixels, Refusal, SIDE_MAX};
+use types::{Aabb2, Pixels, Refusal, SIDE_MAX, sides_too_large};
 
 // The first pixel whose centre is not below low, from 0 on.
 fn first_pixel(low: f32) -> usize
@@ -26,13 +26,13 @@ fn end_pixel(high: f32, side: usize) -> usize
 pub fn rasterize(b: Aabb2, width: usize, height: usize) -> Result<Pixels, Refusal>
     ensures { result ≡ rasterize_of b width height }
 {
-    if width <= SIDE_MAX && height <= SIDE_MAX {
-        return Ok(Pixels {
-            x0: first_pixel(b.min_x),
-            y0: first_pixel(b.min_y),
-            x1: end_pixel(b.max_x, width),
-            y1: end_pixel(b.max_y, height),
-        });
+    if sides_too_large(width, height) {
+        return Err(Refusal::Size);
     }
-    Err(Refusal::Size)
+    Ok(Pixels {
+        x0: first_pixel(b.min_x),
+        y0: first_pixel(b.min_y),
+        x1: end_pixel(b.max_x, width),
+        y1: end_pixel(b.max_y, height),
+    })
 }

@@ -27,8 +27,8 @@ impl<'a> Boxes<'a> {
     }
 }
 
-// The same two for callers that have the list alone: C has no view. aabb3_list has them for six floats: what differs is the pattern's names, and what
-// is shared is crate flat.
+// The same two for callers that have the list alone: C has no view. aabb3_list has them for six floats: each is a division, or a pattern of the
+// struct's names. A generic one between would be no plainer; what both share is the law of crate flat.
 pub fn count_aabbs(all: &[f32]) -> usize
     ensures { result ≡ count_of all.now }
 {

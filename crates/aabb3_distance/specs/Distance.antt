@@ -1,5 +1,5 @@
 -- How far a box of space is from a point, and whether it may be near another box, each operation rounded. Definitions only.
-use Rattle.std.specs.Prelude.{Bool, true, false, not, List, [], ◌∷◌, Float, Option, None, Some, Result, Ok, Err}
+use Rattle.std.specs.Prelude.{Bool, true, false, not, Float, Option, None, Some, Result, Ok, Err}
 use Rattle.std.specs.Float.Ieee.{lt}
 use Rattle.types.specs.declared.shape.Vec3.{Vec3}
 use Rattle.types.specs.declared.shape.Range.{Range}
@@ -10,17 +10,18 @@ use Rattle.float.specs.Rounded.{◌⊕◌, ◌⊖◌, ◌⊗◌, +0}
 use Rattle.float.specs.Values.{min_of, max_of}
 use Rattle.range.specs.Values.{distance_to_range_of}
 
--- the coordinate raised to low and then lowered to high, by the minimum and the maximum that drop a NaN; the square of what it moved
-abbrev pub square_of : Float → Float → Float → Float
-square_of low high at = let d = at ⊖ min_of (max_of at low) high in d ⊗ d
+-- the coordinate raised to the low end and then lowered to the high one, by the minimum and the maximum that drop a NaN; the square of what it
+-- moved
+abbrev pub square_of : Range → Float → Float
+square_of r at = let d = at ⊖ min_of (max_of at r.low) r.high in d ⊗ d
 
 -- summed from 0, in x, y and z
 abbrev pub min_sq_dist_to_point3_of : Aabb3 → Vec3 → Float
 min_sq_dist_to_point3_of b p =
     +0
-    ⊕ square_of b.min_x b.max_x p.x
-    ⊕ square_of b.min_y b.max_y p.y
-    ⊕ square_of b.min_z b.max_z p.z
+    ⊕ square_of (x_range_of b) p.x
+    ⊕ square_of (y_range_of b) p.y
+    ⊕ square_of (z_range_of b) p.z
 
 -- ranges that touch or overlap are near, and so are those whose gap is not above the threshold, as none is above a NaN
 unfoldable pub gap_answer : Float → Result (Option Float) Refusal → Result Bool Refusal
@@ -36,10 +37,6 @@ unfoldable pub unless_yes_of : Result Bool Refusal → Result Bool Refusal → R
 unless_yes_of (Ok true) second = second
 unless_yes_of (Ok false) second = Ok false
 unless_yes_of (Err refusal) second = Err refusal
-
--- in x, y and z
-abbrev pub ranges_of : Aabb3 → List Range
-ranges_of b = x_range_of b ∷ y_range_of b ∷ z_range_of b ∷ []
 
 -- in x, y and z: Order at the first dimension reached with a range not ordered
 abbrev pub is_possible_distance_of : Aabb3 → Aabb3 → Float → Result Bool Refusal

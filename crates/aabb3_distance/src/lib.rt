@@ -3,13 +3,13 @@
 #![tactic(auto)]
 
 ghost use Rattle.std.specs.Prelude.{◌≡◌};
-ghost use Rattle.aabb3_distance.specs.Distance.{square_of, min_sq_dist_to_point3_of, near_of, ranges_of, is_possible_distance_of};
+ghost use Rattle.aabb3_distance.specs.Distance.{square_of, min_sq_dist_to_point3_of, near_of, is_possible_distance_of};
 
 use types::{Aabb3, Range, Refusal, Vec3};
 
 // The square of how far a coordinate is moved to lie in a range.
 fn square(range: Range, at: f32) -> f32
-    ensures { result ≡ square_of range.low range.high at }
+    ensures { result ≡ square_of range at }
 {
     let d = at - float::min(float::max(at, range.low), range.high);
     d * d
@@ -31,13 +31,6 @@ fn near(a: Range, b: Range, threshold: f32) -> Result<bool, Refusal>
     Ok(!gap.is_some_and(|gap| gap > threshold))
 }
 
-// What a box spans in x, y and z.
-fn ranges(b: Aabb3) -> [Range; 3]
-    ensures { result ≡ ranges_of b }
-{
-    [b.x_range(), b.y_range(), b.z_range()]
-}
-
 // No where the boxes are further apart than threshold in some dimension, else yes. The first dimension with a no or a refusal decides.
 #[tactic(auto, unfolding(crate::specs::Distance::unless_yes_of))]
 pub fn is_possible_distance_to_aabb2_smaller_than_threshold(
@@ -47,7 +40,8 @@ pub fn is_possible_distance_to_aabb2_smaller_than_threshold(
 ) -> Result<bool, Refusal>
     ensures { result ≡ is_possible_distance_of a b threshold }
 {
-    let [ax, ay, az] = ranges(a);
-    let [bx, by, bz] = ranges(b);
-    Ok(near(ax, bx, threshold)? && near(ay, by, threshold)? && near(az, bz, threshold)?)
+    let is_near = near(a.x_range(), b.x_range(), threshold)?
+        && near(a.y_range(), b.y_range(), threshold)?
+        && near(a.z_range(), b.z_range(), threshold)?;
+    Ok(is_near)
 }

@@ -2,44 +2,44 @@
 #![tactic(auto)]
 
 ghost use Rattle.std.specs.Prelude.{◌≡◌};
-ghost use Rattle.aabb3_touch.specs.Touch.{is_active_of, is_contain_of, apart_of, is_intersect_of};
+ghost use Rattle.aabb3_touch.specs.Touch.{is_active_of, outside_of, is_contain_of, are_apart_of, is_intersect_of};
 
-use types::{Aabb3, Vec3};
+use axes::apart;
+use types::{Aabb3, Range, Vec3};
 
 // Whether the box is ordered in x. Its y and z are not looked at.
 pub fn is_active(b: Aabb3) -> bool
     ensures { result ≡ is_active_of b }
 {
-    b.min_x <= b.max_x
+    b.x_range().is_ordered()
 }
 
-// Whether p is in the box, faces included: below no low end and above no high one, which no NaN is.
+// Whether a coordinate is below a range or above it. A NaN is neither.
+fn outside(range: Range, at: f32) -> bool
+    ensures { result ≡ outside_of range at }
+{
+    (at < range.low) | (at > range.high)
+}
+
+// Whether p is in the box, faces included: outside in no dimension.
 pub fn is_contain(b: Aabb3, p: Vec3) -> bool
     ensures { result ≡ is_contain_of b p }
 {
-    !((p.x < b.min_x)
-        | (p.x > b.max_x)
-        | (p.y < b.min_y)
-        | (p.y > b.max_y)
-        | (p.z < b.min_z)
-        | (p.z > b.max_z))
+    !(outside(b.x_range(), p.x) | outside(b.y_range(), p.y) | outside(b.z_range(), p.z))
 }
 
-// Whether one box lies wholly above the other in some dimension.
-fn apart(a: Aabb3, b: Aabb3) -> bool
-    ensures { result ≡ apart_of a b }
+// Whether the boxes lie apart in some dimension.
+fn are_apart(a: Aabb3, b: Aabb3) -> bool
+    ensures { result ≡ are_apart_of a b }
 {
-    (a.min_x > b.max_x)
-        | (a.min_y > b.max_y)
-        | (a.min_z > b.max_z)
-        | (a.max_x < b.min_x)
-        | (a.max_y < b.min_y)
-        | (a.max_z < b.min_z)
+    apart(a.x_range(), b.x_range())
+        | apart(a.y_range(), b.y_range())
+        | apart(a.z_range(), b.z_range())
 }
 
 // Whether two boxes, both ordered in x, meet, faces included. A NaN in y or z parts nothing.
 pub fn is_intersect(a: Aabb3, b: Aabb3) -> bool
     ensures { result ≡ is_intersect_of a b }
 {
-    is_active(a) & is_active(b) & !apart(a, b)
+    is_active(a) & is_active(b) & !are_apart(a, b)
 }

@@ -15,7 +15,7 @@ const LINE: usize = 4;
 // How many its result has: `width` of the definitions.
 const RESULT: usize = 3;
 
-// 1 and the interval, or three zeros: a list of floats with a 1 or a 0 first is the form in which it was asked for.
+// 1 and the interval, or three zeros: C takes a line's result as so many floats, LINE_RESULT_FLOATS of the header, with a 1 or a 0 first.
 fn encoded(i: Interval) -> [f32; RESULT]
     ensures { result ≡ encoded_of i }
 {

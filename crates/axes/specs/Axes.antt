@@ -3,10 +3,11 @@
 -- Definitions only.
 use Rattle.std.specs.Prelude.{Bool, true, false, not, cond, ◌||◌, ℕ, List, [], ◌∷◌, map, Float, Option, Result, Ok, Err}
 use Rattle.std.specs.List.{list_any, position_from}
-use Rattle.std.specs.Float.Ieee.{lt, is_nan}
+use Rattle.std.specs.Float.Ieee.{is_nan}
 use Rattle.types.specs.declared.shape.Range.{Range}
 use Rattle.types.specs.declared.refusal.Refusal.{Refusal}
 use Rattle.types.specs.declared.refusal.Refusal.TheVariants.{NanProjection}
+use Rattle.types.specs.Range.{below_of}
 use Rattle.float.specs.Values.{lesser_of, greater_of}
 use Rattle.float.specs.Folds.{least_of, greatest_of}
 
@@ -18,7 +19,7 @@ range_of xs = record { low = least_of xs; high = greatest_of xs }
 
 -- one range's maximum is strictly below the other's minimum: equal ends overlap
 unfoldable pub apart_of : Range → Range → Bool
-apart_of a b = lt a.high b.low || lt b.high a.low
+apart_of a b = below_of a b || below_of b a
 
 -- x folded into a range whose ends are numbers
 abbrev pub widened_of : Range → Float → Range

@@ -25,5 +25,5 @@ pub fn widened(r: Range, x: f32) -> Range
 pub fn apart(a: Range, b: Range) -> bool
     ensures { result ≡ apart_of a b }
 {
-    (a.high < b.low) | (a.low > b.high)
+    a.is_below(b) | b.is_below(a)
 }

@@ -6,7 +6,8 @@ use crate::range::{EMPTY, apart, widened};
 use types::{Range, Refusal, Vector};
 
 // The first axis that separates the corners ps from the corners qs ends both loops with its place, by a labelled break: that form is asked for,
-// so that the last corner is told by its number. Bodies of no corners are separated by none.
+// so that the last corner is told by its number. `zip` and `enumerate` would give the number and both corners as a pair in a pair, and be no plainer.
+// Bodies of no corners are separated by none.
 pub fn first_separating<V: Vector, const N: usize>(
     ps: &[V; N],
     qs: &[V; N],

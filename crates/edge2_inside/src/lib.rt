@@ -7,9 +7,10 @@ ghost use Rattle.edge2_inside.specs.Inside.{shared_of, intersection_length_again
 
 use types::{Aabb2, Range, Refusal, Vec2};
 
-// What the box's range and the range between the edge's two ends share in one dimension.
+// What the box's range and the range between the edge's two ends share in one dimension. That range is made here: crates stroke and stroke_bound
+// make one too, the first widened and the second of two numbers whose order is known.
 fn shared(range: Range, s: f32, e: f32) -> Result<Option<f32>, Refusal>
-    ensures { result ≡ shared_of range.low range.high s e }
+    ensures { result ≡ shared_of range s e }
 {
     range::intersection_length(
         range,

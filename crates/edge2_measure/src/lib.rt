@@ -29,7 +29,8 @@ pub fn unit_edge_vector(s: Vec2, e: Vec2) -> Vec2
     d * inverse
 }
 
-// The point at a ratio from p0, at 0, to p1, at 1.
+// The point at a ratio from p0, at 0, to p1, at 1. By component: the number stands first in each product, as in the source, and `Vec2` times a number
+// has it last.
 pub fn position_from_ratio(p0: Vec2, p1: Vec2, ratio: f32) -> Vec2
     ensures { result ≡ position_from_ratio_of p0 p1 ratio }
 {

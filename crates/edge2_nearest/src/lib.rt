@@ -17,7 +17,8 @@ pub struct OnEdge {
     pub point: Vec2,
 }
 
-// The point nearest to the origin. An edge whose computed squared length is zero gives its midpoint, at one half.
+// The point nearest to the origin. An edge whose computed squared length is zero gives its midpoint, at one half. The products are written by
+// component: the number stands first in each, as in the source, and `Vec2` times a number has it last.
 #[tactic(auto, unfolding(crate::specs::Nearest::nearest_origin_of))]
 pub fn nearest_origin(s: Vec2, e: Vec2) -> OnEdge
     ensures { result ≡ nearest_origin_of s e }

@@ -17,7 +17,8 @@ use Rattle.lists.specs.Places.{upto}
 use Rattle.stroke.specs.Walk.{step_of, axis_from, at, within, in_ranges_of, first_outside, exit, positions}
 use Rattle.stroke.specs.Image.{on_side_of, in_sides_of}
 use Rattle.pixels.specs.Entries.{number, kept, pixels, entries, stroke_of}
-use Rattle.stroke_check.specs.Check.{sides_too_large_of, within_limit_of, refusal_of, offender_from, same_ends_of, unless_offender, accept_of}
+use Rattle.types.specs.Side.{sides_too_large_of}
+use Rattle.stroke_check.specs.Check.{within_limit_of, refusal_of, offender_from, same_ends_of, unless_offender, accept_of}
 use Rattle.stroke_check.specs.Answer.{if_accepted}
 use Rattle.stroke_bound.specs.Bound.{larger_difference_of, pixels_bound_of}
 use Rattle.pixels.specs.Answer.{walk_of}

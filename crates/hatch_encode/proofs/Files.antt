@@ -1,6 +1,6 @@
 -- A file written and read back, and a file read and written again, for any mark of three bytes, any table and any kind of record.
 use mathlib.Core.Path.{◌≡◌, refl, sym, ap, ◌∙◌}
-use mathlib.Core.Bool.{Bool, true, false, ◌&&◌}
+use mathlib.Core.Bool.{true, and-eq-true_iff}
 use mathlib.Core.List.{List, [], ◌∷◌, ◌++◌, append_assoc}
 use Prim.Native.Nat.{ℕ, ◌+◌, ◌*◌, ◌≤◌}
 use native.Mathlib.Omega.{arith}
@@ -24,16 +24,12 @@ unfolding starts_with_of
 starts_append [] t = refl
 starts_append (x ∷ m) t = rw (eq-eqb x x refl) (starts_append m t)
 
-both : (s t : Bool) → (s && t) ≡ true → (s ≡ true) × (t ≡ true)
-both true t e = (refl, e)
-both false t e = absurd (let z : ◌≡◌ {A = ℕ} 0 1 = cc in omega arith)
-
 starts_take : (m b : List ℕ) → starts_with_of m b ≡ true → take (length m) b ≡ m
 unfolding starts_with_of
 starts_take [] b e = refl
 starts_take (x ∷ m) [] e = absurd (let z : ◌≡◌ {A = ℕ} 0 1 = cc in omega arith)
 starts_take (x ∷ m) (y ∷ b) e =
-    let h = both (eqb y x) (starts_with_of m b) e in
+    let h = (and-eq-true_iff (eqb y x) (starts_with_of m b)).0 e in
     ap (λ (k : ℕ). k ∷ take (length m) b) (eqb-true y x h.0) ∙ ap (λ (t : List ℕ). x ∷ t) (starts_take m b h.1)
 
 module _ {A : Type 0} (f : A → List ℕ) (mark : List ℕ) (three : length mark ≡ 3) (v : ℕ) (rs : List A) where

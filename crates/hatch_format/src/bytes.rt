@@ -21,7 +21,7 @@ fn word(bytes: &[u8], at: usize) -> u32
     u32::from_le_bytes([bytes[at], bytes[at + 1], bytes[at + 2], bytes[at + 3]])
 }
 
-// Eight 32-bit numbers, one after the other.
+// Eight 32-bit numbers, one after the other. Written out: a closure over the places would need a clause on where each may stand.
 #[tactic(auto, unfolding(lists::specs::Places::upto))]
 fn words(bytes: &[u8; 32]) -> [u32; 8]
     ensures { result ≡ upto (word_from bytes.now 0) 8 }

@@ -45,11 +45,7 @@ pub fn version_one() -> Row
 fn layout_of(version: usize) -> Option<Row>
     ensures { result ≡ layout_of rows version }
 {
-    if version == 1 {
-        Some(version_one())
-    } else {
-        None
-    }
+    (version == 1).then(version_one)
 }
 
 // A length that is not the expected one: the byte is where the shorter of the two ends.

@@ -4,7 +4,7 @@ use mathlib.Core.List.{List, [], ◌∷◌, ◌++◌, map}
 use Prim.Native.Nat.{ℕ, zero, suc, ◌<◌}
 use native.Mathlib.Decide.{dec_le}
 use native.Mathlib.Omega.{arith}
-use lib.ListN.{length, get_or, get_or-append}
+use lib.ListN.{length, get_or, get_or-append, length-map}
 use lib.Seq.{get_or_at, ext_get_or}
 use Rattle.lists.specs.Places.{upto}
 use Rattle.lists.proofs.Fill.{length_upto}
@@ -21,6 +21,12 @@ pub get_d_mapped : {A B : Type 0} (f : A → B) (d : B) (e : A) (l : List A) (i 
 get_d_mapped f d e [] i h = absurd (omega arith)
 get_d_mapped f d e (x ∷ l) zero h = refl
 get_d_mapped f d e (x ∷ l) (suc i) h = get_d_mapped f d e l i (omega arith)
+
+-- a list as long as l, whose entries are those of l through f, is l through f
+pub mapped : {A B : Type 0} (f : A → B) (d : B) (e : A) (l : List A) (r : List B) → length r ≡ length l
+    → ((j : ℕ) → j < length l → get_or r j d ≡ f (get_or l j e)) → r ≡ map f l
+mapped f d e l r same at = ext_get_or d r (map f l) (same ∙ sym (length-map l f)) λ j h.
+    let few : j < length l = omega (arith, h, length-map l f, same) in at j few ∙ sym (get_d_mapped f d e l j few)
 
 -- a list whose entries are e 0, e 1, .. is that list
 pub listed : {A : Type 0} (d : A) (e : ℕ → A) (s : List A) → ((j : ℕ) → j < length s → get_or s j d ≡ e j) → s ≡ upto e (length s)

@@ -15,10 +15,7 @@ fn beyond(d: Vec2, v: Vec2) -> bool
 {
     let vd = d.dot(v);
     let vv = v.dot(v);
-    if vd < -vv {
-        return true;
-    }
-    vd > vv
+    vd < -vv || vd > vv
 }
 
 // Whether the point lies past no end of either edge: a NaN counts as inside, as in the Rust.

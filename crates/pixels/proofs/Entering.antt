@@ -1,7 +1,8 @@
 -- The walk to the first position in the image.
-use Rattle.std.proofs.Common.{◌≡◌, ℕ, zero, suc, ◌+◌, ◌<◌, ◌≤◌, ◌⊎◌, ◌&&◌, Bool, true, false, T, [], ◌++◌, pos, length, sym, refl, ap, ◌∙◌, subst, inl, inr, append-nil, le_refl, zero-le, arith, true≢false}
+use Rattle.std.proofs.Common.{◌≡◌, ℕ, zero, suc, ◌+◌, ◌<◌, ◌≤◌, ◌⊎◌, ◌&&◌, Bool, true, false, [], ◌++◌, pos, length, sym, refl, ap, ◌∙◌, subst, inl, inr, append-nil, le_refl, zero-le, arith, true≢false}
 use borrow.Author.Tests.{not-true}
 use lib.Ieee.{Float, binary32, lt, le, of_int}
+use denote.Floats.{passes}
 use Rattle.float.specs.Rounded.{+0}
 use Rattle.float.proofs.Order.{lt_not}
 use Rattle.float.proofs.Tests.{neither, either}
@@ -72,8 +73,8 @@ missed a side x m w = go (le +0 x && lt x side) refl
     n = neither (lt x a.low) (lt a.high x) (not-true _ w)
 
     no : (le +0 x ≡ true) × (lt x side ≡ true) → (lt a.high +0 ≡ true) ⊎ (le side a.low ≡ true) → ⊥
-    no o (inl h) = true≢false (sym h ∙ lt_not a.high x +0 (le_numbers +0 x o.0).1 n.1 (le_not +0 x (subst T (sym o.0) tt)))
-    no o (inr h) = true≢false (sym o.1 ∙ lt_not x a.low side (le_numbers side a.low h).1 n.0 (le_not side a.low (subst T (sym h) tt)))
+    no o (inl h) = true≢false (sym h ∙ lt_not a.high x +0 (le_numbers +0 x o.0).1 n.1 (le_not +0 x (passes _ o.0)))
+    no o (inr h) = true≢false (sym o.1 ∙ lt_not x a.low side (le_numbers side a.low h).1 n.0 (le_not side a.low (passes _ h)))
 
     go : (t : Bool) → (le +0 x && lt x side) ≡ t → t ≡ false
     go true e = absurd (no (both (le +0 x) (lt x side) e) (either (lt a.high +0) (le side a.low) m))

@@ -1,8 +1,9 @@
 -- Each of the three comparisons decides as much as all that it stands for, from a position in the stretch on.
-use Rattle.std.proofs.Common.{◌≡◌, ℕ, suc, ◌+◌, ◌-◌, ◌≤◌, Bool, true, false, not, ◌&&◌, ◌||◌, cond, refl, sym, ap, ◌∙◌, subst, T, arith}
+use Rattle.std.proofs.Common.{◌≡◌, ℕ, suc, ◌+◌, ◌-◌, ◌≤◌, Bool, true, false, not, ◌&&◌, ◌||◌, cond, refl, sym, ap, ◌∙◌, subst, arith}
 use mathlib.Core.Bool.{true≢false}
 use borrow.Author.Tests.{not-true, not-false}
 use lib.Ieee.{Float, binary32, lt, le, fits, of_bits, is_nan}
+use denote.Floats.{passes}
 use Rattle.float.specs.Rounded.{+0}
 use Rattle.float.proofs.Laws.{below_number}
 use Rattle.float.proofs.Order.{lt_not, lt_one_way}
@@ -38,7 +39,7 @@ le_is_not : (x y : Float) → is_nan x ≡ false → is_nan y ≡ false → le x
 le_is_not x y n m = go (lt y x) refl
   where
     none : lt y x ≡ true → (u : Bool) → le x y ≡ u → u ≡ false
-    none e true g = absurd (true≢false (sym e ∙ le_not x y (subst T (sym g) tt)))
+    none e true g = absurd (true≢false (sym e ∙ le_not x y (passes _ g)))
     none e false g = refl
 
     go : (t : Bool) → lt y x ≡ t → le x y ≡ not t
@@ -59,7 +60,7 @@ module _ {a : Axis} (z : Sized a) (f : fits binary32 a.start ≡ true) (side : F
   within_at k h w o =
       let r = neither (lt (at a k) a.low) (lt a.high (at a k)) (not-true _ w) in
       let s = both (le +0 (at a k)) (lt (at a k) side) o in
-      record { few = h; over_low = r.0; under_high = r.1; over_zero = le_not +0 (at a k) (subst T (sym s.0) tt); under_side = s.1 }
+      record { few = h; over_low = r.0; under_high = r.1; over_zero = le_not +0 (at a k) (passes _ s.0); under_side = s.1 }
 
   zero_number : is_nan +0 ≡ false
   unfolding of_bits is_nan

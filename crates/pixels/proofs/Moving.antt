@@ -3,6 +3,7 @@ use Rattle.std.proofs.Common.{◌≡◌, ℕ, zero, suc, ◌+◌, ◌≤◌, tru
 use lib.Ieee.{Float, binary32, sub, neg, lt, fits, of_bits, is_nan}
 use lib.Ieee.Fits.{add-fits}
 use lib.Dec.{lit≤}
+use denote.Floats.{passes}
 use Rattle.float.specs.Rounded.{◌⊕◌, +0}
 use Rattle.float.proofs.Negated.{neg_neg}
 use Rattle.float.proofs.Order.{lt_itself, lt_not}
@@ -29,7 +30,7 @@ turned_order x y z h = rw (add_turned z y, add_turned z x) (add_order x y z h)
 module _ (x : Float) (f : T (fits binary32 x)) (h : Size 8388607 x) where
   level : (lt (x ⊕ +0) x ≡ false) × (lt x (x ⊕ +0) ≡ false)
   unfolding of_bits
-  level = eq_not (x ⊕ +0) x (subst T (sym (plus_zero x false f (size_wider 8388607 8388608 x (lit≤ tt) h))) tt)
+  level = eq_not (x ⊕ +0) x (passes _ (plus_zero x false f (size_wider 8388607 8388608 x (lit≤ tt) h)))
 
   sum_number : is_nan (x ⊕ +0) ≡ false
   unfolding of_bits
@@ -46,7 +47,7 @@ module _ (x : Float) (f : T (fits binary32 x)) (h : Size 8388607 x) where
 module _ {a : Axis} (z : Sized a) (f : fits binary32 a.start ≡ true) where
   fit : (k : ℕ) → T (fits binary32 (at a k))
   unfolding at
-  fit zero = subst T (sym f) tt
+  fit zero = passes _ f
   fit (suc k) = add-fits binary32 (at a k) a.slope
 
   size : (k : ℕ) → k ≤ most_steps → Size 8388607 (at a k)

@@ -6,6 +6,7 @@ use lib.Ieee.{Float, nan, inf, fin, binary32, binary64, up, down, size, units, r
 use lib.Ieee.Digits.{size-lt, size-le}
 use lib.Ieee.Exact.{HasValue, round_exact}
 use lib.Ieee.Fits.{down_pos, and_l, and_r}
+use denote.Floats.{passes}
 use Rattle.float.specs.Rounded.{+0}
 use Rattle.float.proofs.Sign.{no_size}
 use Rattle.float.proofs.Units.{pow_lt_back}
@@ -143,7 +144,7 @@ unfolding to_unsigned lt of_bits
 digits_of nan f h p = absurd h
 digits_of (inf s) f h p = absurd h
 digits_of (fin true m e) f h p =
-    let z = no_size true m e f (omega (arith, ltb-false 0 (m * up e * 1 + 0 * down e) (le_not +0 (fin true m e) (subst T (sym p) tt)))) in
+    let z = no_size true m e f (omega (arith, ltb-false 0 (m * up e * 1 + 0 * down e) (le_not +0 (fin true m e) (passes _ p)))) in
     rw (z.0, z.1) digits_zero
 digits_of (fin false m e) f h p =
     let U = m * up e in

@@ -6,11 +6,10 @@ ghost use Rattle.range.specs.Values.{unordered_of, distance_to_range_of, interse
 
 use types::{Range, Refusal};
 
-// A NaN fails each comparison, so the comparisons are those that ordered ranges pass.
 fn unordered(a: Range, b: Range) -> bool
     ensures { result ≡ unordered_of a b }
 {
-    !((a.low <= a.high) & (b.low <= b.high))
+    !(a.is_ordered() & b.is_ordered())
 }
 
 // The gap between two ranges, or none where they touch or overlap. A range that is not ordered is refused.
@@ -20,10 +19,10 @@ pub fn distance_to_range(a: Range, b: Range) -> Result<Option<f32>, Refusal>
     if unordered(a, b) {
         return Err(Refusal::Order);
     }
-    if a.low > b.high {
+    if b.is_below(a) {
         return Ok(Some(a.low - b.high));
     }
-    if b.low > a.high {
+    if a.is_below(b) {
         return Ok(Some(b.low - a.high));
     }
     Ok(None)

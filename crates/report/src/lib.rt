@@ -1,4 +1,5 @@
-// The report on a hatch list, as text: each record clipped as a line, or the number of a refusal and its byte.
+// The report on a hatch list, as text: each record clipped as a line, or the number of a refusal and its byte. It is not put by `write!`: that
+// answers a `Result`, which each caller would have to drop, since a page refuses nothing.
 #![tactic(auto)]
 
 ghost use Rattle.std.specs.Prelude.{◌≡◌, map, ◌≤◌, length, take};

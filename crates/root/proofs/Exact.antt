@@ -1,6 +1,6 @@
 -- The theorem behind the count of `sqrt_digits`: an exact root is whole, is returned as it is, and counts its digits up to the last 1, 12 at
 -- most; any other counts 24.
-use mathlib.Core.Path.{◌≡◌, refl, sym, ap, ◌∙◌, subst}
+use mathlib.Core.Path.{◌≡◌, refl, sym, ap, ◌∙◌}
 use mathlib.Core.Bool.{Bool, true, false, cond}
 use Prim.Native.Nat.{ℕ, zero, suc, ◌*◌, ◌<◌}
 use native.Mathlib.Nat.{lt_of_lt_of_le, zero-lt-suc, mul-one}
@@ -9,6 +9,7 @@ use lib.Dec.{T}
 use lib.Pow.{pow_pos}
 use lib.Ieee.{Float, binary32, fits}
 use lib.Ieee.Positive.{positive}
+use denote.Floats.{passes}
 use Rattle.float.specs.Units.{in_units}
 use Rattle.root.specs.Radicand.{radicand}
 use Rattle.root.specs.Root.{sqrt_of}
@@ -42,7 +43,7 @@ module _ {r : Float} {d : ℕ} (x : Float) (f : T (fits binary32 x)) (is : r ≡
   value = go (positive x) refl
     where
       go : (above : Bool) → positive x ≡ above → d ≡ cond above (digits_of (radicand x) (in_units (sqrt_of x))) 0
-      go true e = sym (rw (← is) (worked_value (worked (subst T (sym e) tt))))
+      go true e = sym (rw (← is) (worked_value (worked (passes _ e))))
       go false e = none e
 
   root : T (positive x) → (p q : ℕ) → ExactRoot x p q → (in_units r * in_units r ≡ radicand x) × (in_units r * q ≡ p)

@@ -78,11 +78,8 @@ module _ {q : ℕ} (d e n : ℕ) (most : e ≤ 402) (split : Split d e n) (r : R
       room e q h k = omega arith
 
   -- ---- and the count that the code returns with it
-  pub root_bits : {w : ℕ} → Worked (n * 2 ^ 23) q w
-      → (half e * 2 ^ 23 + q < 0x7f80_0000)
-      × (of_bits binary32 (half e * 2 ^ 23 + q) ≡ nearest_root (d * 2 ^ e))
-      × Worked (d * 2 ^ e) (in_units (of_bits binary32 (half e * 2 ^ 23 + q))) w
-  root_bits digits = (root_float.0, root_float.1, rw (split, units) (worked_scaled (half e) digits))
+  pub root_digits : {w : ℕ} → Worked (n * 2 ^ 23) q w → Worked (d * 2 ^ e) (in_units (of_bits binary32 (half e * 2 ^ 23 + q))) w
+  root_digits digits = rw (split, units) (worked_scaled (half e) digits)
     where
       units : in_units (of_bits binary32 (half e * 2 ^ 23 + q)) ≡ q * 2 ^ half e
       units = ap in_units float ∙ units_of_lem (odd 25 false q (half e) 149) false (q * 2 ^ half e) (odd_sign 25 false q (half e) 149)

@@ -1,12 +1,13 @@
 -- The root of a NaN, of the infinities, of the zeros, and of what is below zero.
-use mathlib.Core.Path.{◌≡◌, refl, sym, subst}
+use mathlib.Core.Path.{◌≡◌, refl}
 use mathlib.Core.Bool.{Bool, true, false}
 use Prim.Native.Nat.{ℕ, zero, suc, ◌*◌, ◌+◌}
 use native.Mathlib.Omega.{arith}
 use lib.IntN.{ℤ, pos}
-use lib.Dec.{T, eqb-suc-zero}
+use lib.Dec.{eqb-suc-zero}
 use lib.Ieee.{Float, nan, inf, fin, up, down, lt}
 use borrow.Author.Tests.{ltb-true}
+use denote.Floats.{passes}
 use Rattle.root.specs.Root.{sqrt_of}
 
 pub sqrt_of_nan : sqrt_of nan ≡ nan
@@ -35,7 +36,7 @@ pub sqrt_below_zero : (x : Float) → lt x (fin false 0 (pos 0)) ≡ true → sq
 unfolding lt
 sqrt_below_zero nan h = sqrt_of_nan
 sqrt_below_zero (inf true) h = sqrt_of_minus_infinity
-sqrt_below_zero (inf false) h = absurd (subst T (sym h) tt)
+sqrt_below_zero (inf false) h = absurd (passes _ h)
 sqrt_below_zero (fin false m e) h = absurd (omega (arith, ltb-true (m * up e * 1) (0 * down e) h))
 sqrt_below_zero (fin true zero e) h = absurd (omega (arith, ltb-true 0 (0 * up e * 1 + 0 * down e) h))
 sqrt_below_zero (fin true (suc m) e) h = sqrt_of_negative m e

@@ -5,8 +5,8 @@ use mathlib.Core.Bool.{true}
 use Prim.Native.Nat.{ℕ, zero, suc, ◌+◌, ◌-◌, ◌*◌, ◌^◌, ◌≤◌, ◌<◌}
 use native.Mathlib.Decide.{dec_le}
 use native.Mathlib.Omega.{arith}
-use lib.Dec.{T}
 use lib.Ieee.{Float, binary32, fits, of_bits, to_bits}
+use denote.Floats.{passes}
 use Rattle.root.specs.Root.{nearest_root, sqrt_of}
 use Rattle.root.specs.Radicand.{radicand}
 use Rattle.root.specs.Steps.{Scaled, half, Split, Rounds}
@@ -37,4 +37,4 @@ root_of_normal b d e n q low high s split r =
 
 -- the root of x by its bits
 pub root_of_bits : (x : Float) (b : ℕ) → fits binary32 x ≡ true → of_bits binary32 b ≡ sqrt_of (of_bits binary32 (to_bits binary32 x)) → of_bits binary32 b ≡ sqrt_of x
-root_of_bits x b held found = found ∙ sym (ap sqrt_of (from_bits x (to_bits binary32 x) (subst T (sym held) tt) refl))
+root_of_bits x b held found = found ∙ sym (ap sqrt_of (from_bits x (to_bits binary32 x) (passes _ held) refl))

@@ -1,7 +1,7 @@
 -- How many whole places lie between a number and a limit above it, and how a rounded step of one down leaves them. A step from a number of at
 -- least one is exact.
 use mathlib.Core.Path.{◌≡◌, refl, sym, ap, ◌∙◌}
-use mathlib.Core.Bool.{Bool, true, false, ◌&&◌, ◌||◌, cond, true≢false}
+use mathlib.Core.Bool.{Bool, true, false, ◌&&◌, ◌||◌, cond, true≢false, and-eq-true_iff}
 use Prim.Native.Nat.{ℕ, zero, suc, ◌+◌, ◌-◌, ◌*◌, ◌^◌, ◌≤◌, ◌<◌}
 use native.Mathlib.Nat.{lt_of_lt_of_le, lt_irrefl, mul-one, one-mul, zero-mul, mul-pos, mul_comm, mul_assoc, mul_right_comm, mul-le-mul_right, mul-lt-mul_of_pos_right, add-mul, suc-mul, lt_of_mul-lt-mul_right, pow-le-pow_right}
 use native.Mathlib.Decide.{dec_le}
@@ -22,8 +22,7 @@ use Rattle.rounded.proofs.Step.{base, Past, unit}
 use Rattle.rounded.proofs.Apart.{NonZero, nonzero_round}
 
 pub both : (a b : Bool) → (a && b) ≡ true → (a ≡ true) × (b ≡ true)
-both true b e = (refl, e)
-both false b e = absurd (true≢false (sym e))
+both a b = (and-eq-true_iff a b).0
 
 -- ---- downwards
 

@@ -6,6 +6,7 @@ use lib.Ieee.Fits.{down_pos, nan-fits, inf-fits, neg-fits, round-fits}
 use lib.Ieee.Exact.{HasValue}
 use lib.Ieee.Back.{whole_unique}
 use lib.Ieee.Scale.{finite}
+use denote.Floats.{passes}
 use Rattle.rounding.specs.Values.{size_down, size_up, whole_of, floor_of, ceil_of}
 use Rattle.float.specs.Units.{signed}
 use Rattle.rounding.specs.Integral.{sign, Equal, at_most, at_least, TowardNegative, TowardPositive}
@@ -27,7 +28,7 @@ whole s n (fin t m e) v = (equal s t v.0, v.0)
     equal : (s t : Bool) → t ≡ s → signed s n *ℤ pos (down e) ≡ signed t (m * up e)
     equal false false h = ap pos sizes
     equal true true h = scaled n (down e) ∙ ap (λ (k : ℕ). neg_ℤ (pos k)) sizes
-    equal true false h = absurd (subst T (sym h) tt)
+    equal true false h = absurd (passes _ h)
     equal false true h = absurd (subst T h tt)
 
 value_of_lem : (k : ℤ) (r : Float) → Equal k r → HasValue r (sign r) (size k) 1

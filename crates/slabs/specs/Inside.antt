@@ -1,11 +1,8 @@
--- One dimension of an upright box: what is inside, and its middle. Definitions only.
+-- What is inside one dimension of an upright box. Definitions only.
 use Rattle.std.specs.Prelude.{Bool, ◌&&◌, Float}
 use Rattle.std.specs.Float.Ieee.{le}
-use Rattle.float.specs.Rounded.{◌⊕◌, ◌⊗◌, half}
+use Rattle.types.specs.declared.shape.Range.{Range}
 
 -- low ≤ at ≤ high, which no NaN meets
-abbrev pub within_of : Float → Float → Float → Bool
-within_of low high at = le low at && le at high
-
-abbrev pub middle : Float → Float → Float
-middle low high = (low ⊕ high) ⊗ half
+abbrev pub within_of : Range → Float → Bool
+within_of r at = le r.low at && le at r.high

@@ -15,8 +15,8 @@ pub enum Interval {
     Hit { tmin: f32, tmax: f32 },
 }
 
-// One dimension: the box from low to high, and the line's origin and direction. The ends are two fields, since the definitions name them in each
-// formula.
+// One dimension: the box from low to high, and the line's origin and direction. The ends are two fields: with a `Range` each formula would read
+// `s.range.low`, and only `is_outside` would be shorter.
 #[derive(Clone, Copy, Debug, PartialEq)]
 pub struct Slab {
     pub low: f32,
@@ -82,7 +82,7 @@ impl Interval {
     }
 
     // A ray's answer from its line's: the interval where it ends at 0 or later. Its start is not raised to 0. Written out as `ordered` is: one
-    // function of both would take the test as a closure, with clauses on what that answers.
+    // function of both would be handed `tmin` or 0, and its callers would take the interval apart for that.
     pub fn ahead(self) -> Self
         ensures { result ≡ ahead_of self }
     {
@@ -120,7 +120,7 @@ pub fn clip_ahead<const N: usize>(slabs: &[Slab; N]) -> Interval
 // Whether a point's coordinate is in one dimension of a box, ends included. A NaN is outside.
 // The library's `(low..=high).contains(&at)` proves too. It compiles to seven jumps in a point's test, and these comparisons to none.
 pub fn within(range: Range, at: f32) -> bool
-    ensures { result ≡ within_of range.low range.high at }
+    ensures { result ≡ within_of range at }
 {
     (at >= range.low) & (at <= range.high)
 }

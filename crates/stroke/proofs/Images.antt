@@ -7,7 +7,8 @@ use Rattle.types.specs.declared.refusal.Refusal.TheVariants.{SameEnds, Size as T
 use Rattle.types.specs.declared.refusal.RefusalAt.{RefusalAt}
 use Rattle.types.specs.Refusal.{nowhere}
 use Rattle.float.proofs.Tests.{neither}
-use Rattle.stroke_check.specs.Check.{sides_too_large_of, first_offender_of, coordinates, same_ends_of, unless_offender, accept_of}
+use Rattle.types.specs.Side.{sides_too_large_of}
+use Rattle.stroke_check.specs.Check.{first_offender_of, coordinates, same_ends_of, unless_offender, accept_of}
 
 pub record Small (w h : ℕ) : Type 0 where
   pub wide : w ≤ 16384

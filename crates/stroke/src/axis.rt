@@ -1,8 +1,8 @@
 // A stroke's walk in one coordinate.
 ghost use Rattle.std.specs.Prelude.{◌≡◌};
 
-// Where the coordinate starts, how far it goes in a step, and the range within which the walk goes on. Its ends are two fields, since the
-// definitions name them in each formula.
+// Where the coordinate starts, how far it goes in a step, and the range within which the walk goes on. Its ends are two fields: with a `Range` each
+// formula would read `axis.range.low`, and only `spans` would be shorter.
 #[derive(Clone, Copy, Debug, PartialEq)]
 pub struct Axis {
     pub start: f32,
@@ -14,7 +14,7 @@ pub struct Axis {
 impl Axis {
     ghost use Rattle.stroke.specs.Walk.{axis_from, within};
 
-    // From p to q. The slope keeps the difference's sign, and the range is widened by 2 ^ -23.
+    // From p to q. The slope keeps the difference's sign. The range between p and q is made here, since it is widened, by 2 ^ -23.
     pub fn between(step: f32, p: f32, q: f32) -> Self
         ensures { result ≡ axis_from step p q }
     {

@@ -49,7 +49,7 @@ impl Walk {
         }
     }
 
-    // The position one step after p.
+    // The position one step after p. By coordinate, as the axes are: a vector of the slopes would be made to be taken apart.
     pub fn next(self, p: Vec2) -> Vec2
         ensures { result ≡ next self.x self.y p }
     {
@@ -71,7 +71,8 @@ impl Walk {
         ensures { result ≡ exit self.x self.y }
     {
         let mut position = self.first();
-        // The loop runs over numbers, since it counts steps: the positions stand in no list.
+        // The loop runs over numbers, since it counts steps: the positions stand in no list. `entry` and `leave` of crate pixels walk so too, each to
+        // a test of its own and for another answer.
         for steps in 0..MOST_STEPS {
             if !self.spans(position) {
                 return steps;

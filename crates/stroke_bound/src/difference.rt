@@ -24,7 +24,8 @@ fn rise(range: Range) -> usize
     n
 }
 
-// The difference of x and y in size, exact and rounded up. Three contracts say the same bound on it: by each the next sum cannot overflow.
+// The difference of x and y in size, exact and rounded up. The range between them is made by their order, which `rise` asks for. Three contracts say
+// the same bound on it, by which the next sum cannot overflow: a type for it would be made and taken apart at each of them.
 fn rounded_up(x: f32, y: f32) -> usize
     requires { Size 65536 x × Size 65536 y }
     ensures { (result ≡ up_to (2 ^ 149) (difference_of x y)) × (result ≤ 131073) }

@@ -1,5 +1,5 @@
 -- What the tests say of a stroke's ends where none of them refuses it.
-use mathlib.Core.Path.{◌≡◌, refl, sym, ap, ◌∙◌, subst}
+use mathlib.Core.Path.{◌≡◌, refl, sym, ap, ◌∙◌}
 use mathlib.Core.Bool.{Bool, true, false, ◌&&◌, cond, true≢false}
 use mathlib.Core.Logic.{◌⊎◌, inl, inr}
 use mathlib.Core.List.{List, [], ◌∷◌}
@@ -19,10 +19,12 @@ use Rattle.rounded.proofs.Round.{le_num}
 use Rattle.rounded.proofs.Sizes.{sub_size}
 use lib.Ieee.Scale.{finite}
 use Rattle.std.specs.Prelude.{Option, None, Some, Result, Ok, Err}
+use denote.Floats.{passes}
 use Rattle.types.specs.declared.refusal.Refusal.TheVariants.{Room, SameEnds, Size as TooLarge, Coordinate as Large, NotFinite}
 use Rattle.types.specs.declared.refusal.RefusalAt.{RefusalAt}
 use Rattle.types.specs.Refusal.{refusal_at, nowhere}
-use Rattle.stroke_check.specs.Check.{sides_too_large_of, within_limit_of, refusal_of, offender_from, first_offender_of, coordinates, same_ends_of, unless_offender, accept_of}
+use Rattle.types.specs.Side.{sides_too_large_of}
+use Rattle.stroke_check.specs.Check.{within_limit_of, refusal_of, offender_from, first_offender_of, coordinates, same_ends_of, unless_offender, accept_of}
 
 -- a coordinate that is accepted: an f32 of at most 65,536 in size
 pub record Coordinate (x : Float) : Type 0 where
@@ -62,10 +64,10 @@ limit_size : (x : Float) → within_limit_of x ≡ true → Size 65536 x
 unfolding within_limit_of abs_of of_bits le lt eq
 limit_size nan t = absurd (true≢false (sym t))
 limit_size (inf s) t = absurd (true≢false (sym t))
-limit_size (fin s m e) t = omega (arith, le_num m e 1 (pos 16) (subst T (sym t) tt), mul-one (m * up e))
+limit_size (fin s m e) t = omega (arith, le_num m e 1 (pos 16) (passes _ t), mul-one (m * up e))
 
 coordinate : (x : Float) → fits binary32 x ≡ true → within_limit_of x ≡ true → Coordinate x
-coordinate x f t = record { fit = subst T (sym f) tt; size = limit_size x t }
+coordinate x f t = record { fit = passes _ f; size = limit_size x t }
 
 -- none offends: the first is within the limit, and none of the others offends
 within_more : (at : ℕ) (x : Float) (xs : List Float) → offender_from at (x ∷ xs) ≡ None

@@ -1,5 +1,5 @@
 -- What is tested of a stroke before it is walked, and of its coordinates before its ink is measured. Definitions only.
-use Rattle.std.specs.Prelude.{Bool, cond, ◌&&◌, ◌||◌, List, [], ◌∷◌, ℕ, suc, ltb, Float, Option, None, Some, Result, Ok, Err}
+use Rattle.std.specs.Prelude.{Bool, cond, ◌&&◌, List, [], ◌∷◌, ℕ, suc, Float, Option, None, Some, Result, Ok, Err}
 use Rattle.std.specs.Float.{binary32}
 use Rattle.std.specs.Float.Ieee.{of_bits, le, eq}
 use Rattle.std.specs.Float.Ieee.Scale.{finite}
@@ -9,10 +9,7 @@ use Rattle.types.specs.declared.refusal.Refusal.{Refusal}
 use Rattle.types.specs.declared.refusal.Refusal.TheVariants.{SameEnds, Coordinate, Size, NotFinite}
 use Rattle.types.specs.declared.refusal.RefusalAt.{RefusalAt}
 use Rattle.types.specs.Refusal.{refusal_at, nowhere}
-
--- an image side above 16,384
-unfoldable pub sides_too_large_of : ℕ → ℕ → Bool
-sides_too_large_of w h = ltb 16384 w || ltb 16384 h
+use Rattle.types.specs.Side.{sides_too_large_of}
 
 -- 65,536
 abbrev pub limit : Float

@@ -1,23 +1,15 @@
 // What is tested of a stroke before it is walked, and of its coordinates before its ink is measured.
-#![tactic(auto, unfolding(crate::specs::Check::sides_too_large_of, crate::specs::Check::within_limit_of, crate::specs::Check::refusal_of, crate::specs::Check::same_ends_of, crate::specs::Check::unless_offender, crate::specs::Check::accept_of))]
+#![tactic(auto, unfolding(crate::specs::Check::within_limit_of, crate::specs::Check::refusal_of, crate::specs::Check::same_ends_of, crate::specs::Check::unless_offender, crate::specs::Check::accept_of))]
 
 ghost use Rattle.std.specs.Prelude.{◌≡◌, Ok};
-ghost use Rattle.stroke_check.specs.Check.{sides_too_large_of, within_limit_of, refusal_of, first_offender_of, unless_offender, accept_of};
+ghost use Rattle.stroke_check.specs.Check.{within_limit_of, refusal_of, first_offender_of, unless_offender, accept_of};
 
-use types::{Refusal, RefusalAt, SIDE_MAX, Vec2};
+use types::{Refusal, RefusalAt, Vec2, sides_too_large};
 
 // The largest size that a coordinate may have.
 const LIMIT: f32 = 65536.0;
 
-// The sides stand as two numbers here and in `accept`, and a stroke as its two ends: C hands them so, and the Image and the Accepted of crate stroke
-// are made from them after the test. Crates aabb2_raster and tiles test sides too, each among other tests of its own.
-fn sides_too_large(width: usize, height: usize) -> bool
-    ensures { result ≡ sides_too_large_of width height }
-{
-    width > SIDE_MAX || height > SIDE_MAX
-}
-
-// Finite and at most the limit in size.
+// Finite and at most the limit in size. One comparison, as `bad_coordinate` of tiles is, which has another limit.
 fn within_limit(x: f32) -> bool
     ensures { result ≡ within_limit_of x }
 {
@@ -48,7 +40,8 @@ pub fn within_limits(coordinates: &[f32]) -> Result<(), RefusalAt>
     Ok(())
 }
 
-// The image's sides are tested first, then the coordinates, then whether the ends are one point: +0 equals -0.
+// The image's sides are tested first, then the coordinates, then whether the ends are one point: +0 equals -0. The sides stand as two numbers and the
+// stroke as its two ends: C hands them so, and the Image and the Accepted of crate stroke are made from them after the test.
 pub fn accept(width: usize, height: usize, p0: Vec2, p1: Vec2) -> Result<(), RefusalAt>
     ensures { result ≡ accept_of width height p0 p1 }
 {

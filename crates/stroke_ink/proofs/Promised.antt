@@ -3,11 +3,14 @@ use mathlib.Core.Path.{◌≡◌, sym, subst, ◌∙◌}
 use mathlib.Core.Bool.{true}
 use Prim.Native.Nat.{ℕ}
 use native.Mathlib.Omega.{arith}
-use lib.Ieee.{Float, le}
+use lib.Ieee.{Float}
 use Rattle.types.specs.declared.shape.Vec2.{Vec2}
 use Rattle.types.specs.declared.shape.Aabb2.{Aabb2}
 use Rattle.std.specs.Prelude.{Ok, Err}
 use Rattle.types.specs.declared.refusal.RefusalAt.{RefusalAt}
+use Rattle.types.specs.Range.{ordered_of}
+use Rattle.types.specs.Aabb2.{x_range_of, y_range_of, is_ordered_of}
+use Rattle.rounded.proofs.Down.{both}
 use Rattle.stroke_check.specs.Check.{first_offender_of, coordinates, unless_offender}
 use Rattle.stroke_check.proofs.Accepted.{AreFloats, yes, bounded, none_offends}
 use Rattle.stroke_ink.specs.Ink.{drawn_of, ink_of}
@@ -19,7 +22,7 @@ refused e = record { answers = e; inked = λ x z. absurd (let y : ◌≡◌ {A =
 
 -- coordinates that are f32 and let pass, and a box in order
 module _ {p q : Vec2} {b : Aabb2} (f : AreFloats p q) (pass : yes ≡ unless_offender (first_offender_of (coordinates p q)) yes)
-    (ox : le b.min_x b.max_x ≡ true) (oy : le b.min_y b.max_y ≡ true) where
+    (ordered : is_ordered_of b ≡ true) where
   inked : Inked p q b (drawn_of p q b)
   inked =
       let w = bounded f (none_offends pass) in
@@ -29,13 +32,13 @@ module _ {p q : Vec2} {b : Aabb2} (f : AreFloats p q) (pass : yes ≡ unless_off
         not_negative = l.not_negative;
         whole = whole w b;
         missed = missed w b;
-        outside = outside w b ox oy;
+        outside = let o = both (ordered_of (x_range_of b)) (ordered_of (y_range_of b)) ordered in outside w b o.0 o.1;
         no_length = no_length w b;
       }
 
   pub measured : {x : Float} → x ≡ drawn_of p q b → Promise p q b (Ok x)
   unfolding ink_of unless_offender
   measured {x} d = record {
-    answers = rw (d, none_offends pass, ox, oy);
+    answers = rw (d, none_offends pass, ordered);
     inked = λ y z. let same : x ≡ y = cc in subst (Inked p q b) (sym d ∙ same) inked;
   }

@@ -1,8 +1,8 @@
 -- The ink that a stroke leaves in a box, in the words of document 02's seventh request, each operation rounded. Definitions only.
-use Rattle.std.specs.Prelude.{cond, ◌&&◌, Float, Result, Ok, Err}
-use Rattle.std.specs.Float.Ieee.{le}
+use Rattle.std.specs.Prelude.{cond, Float, Result, Ok, Err}
 use Rattle.types.specs.declared.shape.Vec2.{Vec2}
 use Rattle.types.specs.declared.shape.Aabb2.{Aabb2}
+use Rattle.types.specs.Aabb2.{is_ordered_of}
 use Rattle.types.specs.declared.refusal.Refusal.TheVariants.{Order}
 use Rattle.types.specs.declared.refusal.RefusalAt.{RefusalAt}
 use Rattle.types.specs.Refusal.{nowhere}
@@ -36,4 +36,4 @@ drawn_of p q b = length_over_of p q (bounded_of (clipped_of p q b))
 unfoldable pub ink_of : Vec2 → Vec2 → Aabb2 → Result Float RefusalAt
 ink_of p q b =
     unless_offender (first_offender_of (coordinates p q))
-    (cond (le b.min_x b.max_x && le b.min_y b.max_y) (Ok (drawn_of p q b)) (Err (nowhere Order)))
+    (cond (is_ordered_of b) (Ok (drawn_of p q b)) (Err (nowhere Order)))

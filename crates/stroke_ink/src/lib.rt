@@ -56,7 +56,7 @@ pub fn ink(p0: Vec2, p1: Vec2, b: Aabb2) -> Result<f32, RefusalAt>
     ensures { Promise p0 p1 b result }
 {
     within_limits(&[p0.x, p0.y, p1.x, p1.y])?;
-    if b.min_x <= b.max_x && b.min_y <= b.max_y {
+    if b.is_ordered() {
         return Ok(drawn(p0, p1, b));
     }
     Err(Refusal::Order.into())

@@ -1,6 +1,6 @@
 -- The hexadecimal digits of a number are those of its bytes, the highest first.
-use mathlib.Core.Path.{◌≡◌, refl, sym, ap, ◌∙◌, subst}
-use mathlib.Core.Bool.{Bool, true, false, ◌&&◌, true≢false}
+use mathlib.Core.Path.{◌≡◌, refl, ap, ◌∙◌, subst}
+use mathlib.Core.Bool.{Bool, true, ◌&&◌, and-eq-true_iff}
 use Prim.Native.Nat.{ℕ, zero, suc, ◌/◌, ◌%◌, ◌^◌, ◌<◌}
 use native.Mathlib.Decide.{dec_le}
 use native.Mathlib.Omega.{arith}
@@ -20,15 +20,11 @@ each : (n d : ℕ) → same n ≡ true → d < n → slice_index lower_digits d 
 unfolding same
 each zero d e h = absurd (omega arith)
 each (suc n) d e h =
-    let both = and_true (eqb (slice_index lower_digits n) (digit n)) (same n) e in
+    let both = (and-eq-true_iff (eqb (slice_index lower_digits n) (digit n)) (same n)).0 e in
     elim (dec_le n d) [
       | yes a ↦ let last : n ≡ d = omega arith in subst (λ (k : ℕ). slice_index lower_digits k ≡ digit k) last (eqb-true _ _ both.0)
       | no b ↦ each n d both.1 (omega arith)
     ]
-  where
-    and_true : (s t : Bool) → (s && t) ≡ true → (s ≡ true) × (t ≡ true)
-    and_true true t e = (refl, e)
-    and_true false t e = absurd (true≢false (sym e))
 
 glyph : (d k : ℕ) → d < 16 → d ≡ k → slice_index lower_digits d ≡ digit k
 unfolding same

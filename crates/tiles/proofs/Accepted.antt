@@ -1,11 +1,12 @@
 -- What a call that is not refused knows of its sheet and its box.
-use mathlib.Core.Path.{◌≡◌, refl, sym, subst}
+use mathlib.Core.Path.{◌≡◌, refl}
 use mathlib.Core.Bool.{Bool, true, false, ◌||◌, true≢false}
 use Prim.Native.Nat.{◌^◌, ◌≤◌}
 use native.Mathlib.Omega.{arith}
-use lib.Dec.{T, ltb, eqb}
+use lib.Dec.{ltb, eqb}
 use lib.Ieee.{Float, nan, inf, fin, binary32, fits}
 use borrow.Author.Tests.{ltb-false, eqb-false}
+use denote.Floats.{passes}
 use Rattle.types.specs.declared.shape.Aabb2.{Aabb2}
 use Rattle.float.specs.Units.{in_units}
 use Rattle.tiles.specs.Sheet.{Sheet}
@@ -19,7 +20,7 @@ Taken x = F32 x × (in_units x ≤ 2 ^ 169)
 pub taken : (x : Float) → fits binary32 x ≡ true → bad_coordinate_of x ≡ false → Taken x
 taken nan f h = absurd (true≢false h)
 taken (inf s) f h = absurd (true≢false h)
-taken (fin s m e) f h = ((subst T (sym f) tt, tt), ltb-false (2 ^ 169) (in_units (fin s m e)) h)
+taken (fin s m e) f h = ((passes _ f, tt), ltb-false (2 ^ 169) (in_units (fin s m e)) h)
 
 pub record Sides (s : Sheet) : Type 0 where
   pub size_low : 1 ≤ s.size

@@ -5,12 +5,13 @@ use mathlib.Core.Bool.{true, false, not, ◌&&◌, ◌||◌}
 use Prim.Native.Nat.{ℕ, ◌*◌, ◌^◌, ◌<◌}
 use native.Mathlib.Nat.{le_of_lt, lt_irrefl, mul-one, mul_right_comm, mul-le-mul_right, mul-lt-mul_of_pos_right}
 use native.Mathlib.Omega.{arith}
-use lib.Dec.{T, ltb, eqb}
+use lib.Dec.{ltb, eqb}
 use lib.Pow.{pow_pos}
 use lib.IntN.{pos}
 use lib.Ieee.{Float, nan, inf, fin, binary32, up, down, le, fits}
 use lib.Ieee.Fits.{down_pos}
 use borrow.Author.Tests.{lt-ltb, le-ltb, eq-eqb, ne_eqb}
+use denote.Floats.{passes}
 use Rattle.float.specs.Units.{in_units}
 use Rattle.float.specs.Values.{abs_of}
 use Rattle.tiles.specs.Answer.{bad_coordinate_of}
@@ -46,7 +47,7 @@ test_is (fin s m e) f =
     let a = m * up e * 1 in
     let b = 2 ^ 20 * down e in
     let X = in_units (fin s m e) in
-    let p : a * 2 ^ 149 ≡ X * down e = ap (λ (x : ℕ). x * 2 ^ 149) (mul-one (m * up e)) ∙ units_exact s m e (in_units_lem s m e (subst T (sym f) tt)) in
+    let p : a * 2 ^ 149 ≡ X * down e = ap (λ (x : ℕ). x * 2 ^ 149) (mul-one (m * up e)) ∙ units_exact s m e (in_units_lem s m e (passes _ f)) in
     not_le a b
     ∙ sym (scaled b a (2 ^ 149) (pow_pos 149))
     ∙ ap (λ (x : ℕ). ltb x (a * 2 ^ 149)) (mul_right_comm (2 ^ 20) (down e) (2 ^ 149))

@@ -1,7 +1,16 @@
--- The middle and the length of a range, each operation rounded. Definitions only.
-use Rattle.std.specs.Prelude.{Float}
+-- What a range's two ends tell, each operation rounded. Definitions only.
+use Rattle.std.specs.Prelude.{Bool, Float}
+use Rattle.std.specs.Float.Ieee.{lt, le}
 use Rattle.types.specs.declared.shape.Range.{Range}
 use Rattle.float.specs.Rounded.{◌⊕◌, ◌⊖◌, ◌⊗◌, half}
+
+-- low ≤ high, which no NaN meets
+abbrev pub ordered_of : Range → Bool
+ordered_of r = le r.low r.high
+
+-- the first lies wholly below the second: equal ends touch, and a comparison with a NaN says nothing
+abbrev pub below_of : Range → Range → Bool
+below_of a b = lt a.high b.low
 
 abbrev pub middle_of : Range → Float
 middle_of r = (r.low ⊕ r.high) ⊗ half

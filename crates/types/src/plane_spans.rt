@@ -4,7 +4,7 @@ ghost use Rattle.std.specs.Prelude.{◌≡◌};
 use crate::shape::{Aabb2, Range};
 
 impl Aabb2 {
-    ghost use Rattle.types.specs.Aabb2.{x_range_of, y_range_of};
+    ghost use Rattle.types.specs.Aabb2.{x_range_of, y_range_of, is_ordered_of};
 
     pub fn x_range(self) -> Range
         ensures { result ≡ x_range_of self }
@@ -22,5 +22,12 @@ impl Aabb2 {
             low: self.min_y,
             high: self.max_y,
         }
+    }
+
+    // Whether both ranges are ordered.
+    pub fn is_ordered(self) -> bool
+        ensures { result ≡ is_ordered_of self }
+    {
+        self.x_range().is_ordered() && self.y_range().is_ordered()
     }
 }

@@ -4,7 +4,21 @@ ghost use Rattle.std.specs.Prelude.{◌≡◌};
 use crate::shape::Range;
 
 impl Range {
-    ghost use Rattle.types.specs.Range.{middle_of, length_of};
+    ghost use Rattle.types.specs.Range.{ordered_of, below_of, middle_of, length_of};
+
+    // Whether the low end is at most the high one. A range with a NaN is not ordered.
+    pub fn is_ordered(self) -> bool
+        ensures { result ≡ ordered_of self }
+    {
+        self.low <= self.high
+    }
+
+    // Whether it lies wholly below another. Ranges that touch do not, and a NaN at the ends between them says no.
+    pub fn is_below(self, other: Range) -> bool
+        ensures { result ≡ below_of self other }
+    {
+        self.high < other.low
+    }
 
     // Half of the sum of both ends, as computed: the sum can be infinite where both ends are finite.
     pub fn middle(self) -> f32

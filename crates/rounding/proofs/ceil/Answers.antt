@@ -1,5 +1,6 @@
-use Rattle.std.proofs.Common.{T, sym, ap, ◌∙◌, subst}
+use Rattle.std.proofs.Common.{ap, ◌∙◌}
 use Rattle.std.specs.Float.Ieee.{neg}
+use denote.Floats.{passes}
 use Rattle.rounding.proofs.Whole.{ceil_by_floor}
 use Rattle.rounding.proofs.Standard.{ceil_rounds}
 use Rattle.rounding.proofs.ceil.Goals as goal
@@ -8,4 +9,4 @@ use Rattle.rounding.proofs.ceil.Goals as goal
 pub returns : goal.returns
 returns c =
     let x = c.args.x in
-    ceil_rounds x _ (subst T (sym c.well_formed.0.1) tt) (ap neg c.floor.ensures.value ∙ ceil_by_floor x)
+    ceil_rounds x _ (passes _ c.well_formed.0.1) (ap neg c.floor.ensures.value ∙ ceil_by_floor x)

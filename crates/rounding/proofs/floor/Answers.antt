@@ -1,7 +1,8 @@
-use Rattle.std.proofs.Common.{◌≡◌, ℕ, ◌^◌, ◌<◌, T, true, pos, sym, ap, ◌∙◌, subst, arith, lit≤}
+use Rattle.std.proofs.Common.{◌≡◌, ℕ, ◌^◌, ◌<◌, true, pos, sym, ap, ◌∙◌, subst, arith, lit≤}
 use Rattle.std.specs.Prelude.{Float}
 use Rattle.std.specs.Float.{binary32}
 use Rattle.std.specs.Float.Ieee.{le, lt, of_bits, neg, of_int, to_unsigned}
+use denote.Floats.{passes}
 use Rattle.float.proofs.Casts.{in_float_lem}
 use Rattle.rounding.proofs.Sizes.{Under, under, over_zero, wider, part_lt, unsigned, pow2}
 use Rattle.rounding.proofs.Whole.{floor_small, floor_large, floor_large_neg, floor_more, floor_same, floor_fraction, floor_minus_one, floor_none}
@@ -44,43 +45,43 @@ int_to_float-result-then-t-a c = in_float_lem _ (omega (arith, cut_lt _ c.whole_
 pub returns-then-x-2 : goal.returns-then-x-2
 unfolding of_bits
 returns-then-x-2 c =
-    floor_rounds c.args.x _ (subst T (sym c.well_formed.0.1) tt)
+    floor_rounds c.args.x _ (passes _ c.well_formed.0.1)
     (ap (λ (n : ℕ). of_int binary32 (pos n)) c.whole_part.ensures ∙ floor_small (lit≤ tt) (small c.if-x.true c.if-x-2.true))
 
 pub returns-else-x-2 : goal.returns-else-x-2
 unfolding of_bits
 returns-else-x-2 c =
-    let held = subst T (sym c.well_formed.0.1) tt in
+    let held = passes _ c.well_formed.0.1 in
     floor_rounds c.args.x _ held (floor_large c.args.x held (over_zero c.args.x c.if-x.true) c.if-x-2.false)
 
 pub returns-then-t-a : goal.returns-then-t-a
 unfolding of_bits
 returns-then-t-a c =
-    floor_rounds c.args.x _ (subst T (sym c.well_formed.0.1) tt)
+    floor_rounds c.args.x _ (passes _ c.well_formed.0.1)
     (floor_more c.args.x (small c.if-a.true c.if-a-2.true) c.whole_part-n.result c.whole_part-n.ensures c.if-t-a.true)
 
 pub returns-else-t-a : goal.returns-else-t-a
 unfolding of_bits
 returns-else-t-a c =
-    floor_rounds c.args.x _ (subst T (sym c.well_formed.0.1) tt)
+    floor_rounds c.args.x _ (passes _ c.well_formed.0.1)
     (floor_same c.args.x (small c.if-a.true c.if-a-2.true) c.whole_part-n.result c.whole_part-n.ensures c.if-t-a.false)
 
 pub returns-else-a-2 : goal.returns-else-a-2
 unfolding of_bits
 returns-else-a-2 c =
-    let held = subst T (sym c.well_formed.0.1) tt in
+    let held = passes _ c.well_formed.0.1 in
     floor_rounds c.args.x _ held (floor_large_neg c.args.x held (over_zero (neg c.args.x) c.if-a.true) c.if-a-2.false)
 
 pub returns-then-x-3 : goal.returns-then-x-3
 unfolding of_bits
-returns-then-x-3 c = floor_rounds c.args.x _ (subst T (sym c.well_formed.0.1) tt) (floor_fraction c.args.x c.if-x-3.true c.if-x.false)
+returns-then-x-3 c = floor_rounds c.args.x _ (passes _ c.well_formed.0.1) (floor_fraction c.args.x c.if-x-3.true c.if-x.false)
 
 pub returns-then-x-4 : goal.returns-then-x-4
 unfolding of_bits
-returns-then-x-4 c = floor_rounds c.args.x _ (subst T (sym c.well_formed.0.1) tt) (floor_minus_one c.args.x c.if-x-4.true c.if-a.false)
+returns-then-x-4 c = floor_rounds c.args.x _ (passes _ c.well_formed.0.1) (floor_minus_one c.args.x c.if-x-4.true c.if-a.false)
 
 pub returns-else-x-4 : goal.returns-else-x-4
 unfolding of_bits
 returns-else-x-4 c =
-    let held = subst T (sym c.well_formed.0.1) tt in
+    let held = passes _ c.well_formed.0.1 in
     floor_rounds c.args.x _ held (floor_none c.args.x held c.if-x-3.false c.if-x-4.false)

@@ -1,7 +1,8 @@
-use Rattle.std.proofs.Common.{◌≡◌, ℕ, ◌+◌, ◌^◌, ◌≤◌, Bool, true, false, cond, T, pos, sym, ap, ◌∙◌, subst, le_trans, lit≤, arith}
+use Rattle.std.proofs.Common.{◌≡◌, ℕ, ◌+◌, ◌^◌, ◌≤◌, Bool, true, false, cond, pos, sym, ap, ◌∙◌, subst, le_trans, lit≤, arith}
 use Rattle.std.specs.Prelude.{Float}
 use Rattle.std.specs.Float.{binary32}
 use Rattle.std.specs.Float.Ieee.{lt, of_int, fits, to_unsigned}
+use denote.Floats.{passes}
 use Rattle.float.specs.Rounded.{◌⊖◌}
 use Rattle.float.proofs.Casts.{in_float_lem}
 use Rattle.rounded.specs.Size.{Size}
@@ -23,7 +24,7 @@ module _ (x y : Float) (r : (Size 65536 x × Size 65536 y) × (lt y x ≡ false)
   meets u f g h =
       sym (ap (λ (z : Bool). cond z (n + 1) n) h)
       ∙ subst (λ (k : ℕ). cond (leaves x y (of_int binary32 (pos k))) (k + 1) k ≡ up_to (2 ^ 149) (difference_of x y)) (sym is)
-      (rise_is x y (subst T (sym f) tt) (subst T (sym g) tt) r.0.0 r.0.1 r.1)
+      (rise_is x y (passes _ f) (passes _ g) r.0.0 r.0.1 r.1)
 
 pub int_to_float-whole : goal.int_to_float-whole
 int_to_float-whole c = in_float_lem _ (le_trans (small c.args.range.low c.args.range.high c.requires c.to_usize-n.ensures) (lit≤ tt))
