@@ -6,9 +6,9 @@ use native.Mathlib.Omega.{arith}
 use native.Mathlib.Nat.{mul-le-mul_left, mul-add, mul-one}
 use borrow.Author.Tests.{le-ltb}
 use lib.ListN.{length, take, drop, length-drop, length-map}
-use lib.Seq.{get_or-take, get_or-drop, ext_get_or, length-take-le}
+use lib.Seq.{get_or-take, get_or-drop, length-take-le}
 use Rattle.lists.specs.Places.{upto}
-use Rattle.lists.proofs.Entries.{get_d_upto, get_d_mapped}
+use Rattle.lists.proofs.Entries.{get_d_upto, mapped}
 use Rattle.lists.proofs.Fill.{length_upto}
 use Rattle.hatch_format.specs.Bytes.{word_from}
 use Rattle.hatch_format.specs.Format.{record_place}
@@ -27,12 +27,13 @@ module _ {A : Type 0} (f : ℕ → A) (d : A) (width n : ℕ) (b : List ℕ) (h 
       let words = upto (word_from b at) 8 in
       let m : width * (i + 1) ≤ width * n = mul-le-mul_left width (omega arith) in
       let inside : at + 32 ≤ length b = omega (arith, h.whole, h.wide, m, mul-add width i 1, mul-one width) in
-      let eight : length (map f words) ≡ 8 = length-map words f ∙ length_upto (word_from b at) 8 in
+      let eight : length words ≡ 8 = length_upto (word_from b at) 8 in
       let all : length entries ≡ 8 * n = length-map (patterns_of width b n) f ∙ length_upto (pattern_at_of width b) (8 * n) in
       let part : length (take 8 (drop (8 * i) entries)) ≡ 8 = length-take-le 8 (drop (8 * i) entries) (omega (arith, length-drop (8 * i) entries, all)) in
       rw (le-ltb (length b) (at + 32) inside)
-      (ext_get_or d (map f words) (take 8 (drop (8 * i) entries)) (eight ∙ sym part) λ j k.
-      let few : j < 8 = omega (arith, eight) in
-      get_d_mapped f d 0 words j (omega (arith, length_upto (word_from b at) 8))
-      ∙ ap f (get_d_upto (word_from b at) 0 8 j few ∙ sym (pattern_of_record width b i j few))
-      ∙ sym (get_or-take 8 (drop (8 * i) entries) j d few ∙ get_or-drop (8 * i) entries j d ∙ file_entry width n b i g f d j few))
+      (sym (mapped f d 0 words (take 8 (drop (8 * i) entries)) (part ∙ sym eight) λ j k.
+      let few : j < 8 = omega (arith, k, eight) in
+      get_or-take 8 (drop (8 * i) entries) j d few
+      ∙ get_or-drop (8 * i) entries j d
+      ∙ file_entry width n b i g f d j few
+      ∙ ap f (pattern_of_record width b i j few ∙ sym (get_d_upto (word_from b at) 0 8 j few))))
