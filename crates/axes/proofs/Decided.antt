@@ -7,12 +7,17 @@ use native.Mathlib.Numerals.{add-one}
 use lib.ListN.{length, drop, get_or, drop_of_length-le}
 use lib.Seq.{drop-cons}
 use lib.Ieee.{Float}
-use Rattle.std.specs.Prelude.{Ok, Err}
+use Rattle.std.specs.Prelude.{Result, Ok, Err}
 use Rattle.types.specs.declared.shape.Range.{Range}
 use Rattle.types.specs.declared.refusal.Refusal.{Refusal}
 use Rattle.types.specs.declared.refusal.Refusal.TheVariants.{NanProjection}
 use Rattle.axes.proofs.Ranges.{both_span, one_refused, other_refused}
-use Rattle.axes.specs.Axes.{apart_of, span_of, separates, undefined_on, verdict_of, is_yes_of}
+use Rattle.axes.specs.Axes.{apart_of, span_of, separates, undefined_on, verdict_of}
+
+-- a refusal is not a yes
+unfoldable pub is_yes_of : Result Bool Refusal → Bool
+is_yes_of (Ok b) = b
+is_yes_of (Err refusal) = false
 
 module _ {P : Type 0} (dot : P → P → Float) (ps qs : List P) where
   -- the axes from place j on decide

@@ -13,9 +13,9 @@ use Rattle.types.specs.declared.refusal.Refusal.{Refusal}
 use Rattle.types.specs.declared.refusal.Refusal.TheVariants.{NanProjection}
 use Rattle.float.proofs.Tests.{neither, either}
 use Rattle.std.specs.List.{list_any}
-use Rattle.axes.specs.Axes.{projections, separates, undefined_on, verdict_of, is_yes_of}
+use Rattle.axes.specs.Axes.{projections, separates, undefined_on, verdict_of}
 use Rattle.axes.specs.Reached.{Numbers, Defined, Separated, Passed, Reached, VerdictPromise}
-use Rattle.axes.proofs.Decided.{verdict_join}
+use Rattle.axes.proofs.Decided.{is_yes_of, verdict_join}
 use Rattle.axes.proofs.Disjoint.{some_is, is_some, separates_if_disjoint}
 
 -- ---- a test that cannot hold, or cannot fail

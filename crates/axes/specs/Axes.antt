@@ -31,11 +31,6 @@ widened_of r x = record { low = lesser_of r.low x; high = greater_of r.high x }
 abbrev pub first_of : {A : Type 0} → (A → Bool) → List A → Option ℕ
 first_of f xs = position_from f 0 xs
 
--- a refusal is not a yes
-unfoldable pub is_yes_of : Result Bool Refusal → Bool
-is_yes_of (Ok b) = b
-is_yes_of (Err refusal) = false
-
 -- ---- axes
 
 module _ {P : Type 0} (dot : P → P → Float) where

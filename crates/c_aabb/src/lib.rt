@@ -4,6 +4,7 @@
 ghost use Rattle.std.specs.Prelude.{◌≡◌, length};
 ghost use Rattle.lists.specs.Lent.{leaves};
 ghost use Rattle.c_answers.specs.Answers.{interval_answer_of, count_answer_of};
+ghost use Rattle.c_answers.specs.Told.{Tells};
 ghost use Rattle.slabs.specs.Promise.{IsLineAnswer, IsRayAnswer};
 ghost use Rattle.aabb.specs.Clip.{slabs, intersections_against_line_of, intersections_against_ray_of};
 ghost use Rattle.aabb.specs.Inside.{is_include_point_of, center_of};
@@ -27,7 +28,7 @@ pub extern "C" fn bgz_aabb_intersections_against_line(
     direction: Vec2,
 ) -> IntervalAnswer
     ensures answers { result ≡ interval_answer_of (intersections_against_line_of b origin direction) }
-    ensures means { IsLineAnswer (slabs b origin direction) (intersections_against_line_of b origin direction) }
+    ensures means { Tells interval_answer_of result (IsLineAnswer (slabs b origin direction)) }
 {
     IntervalAnswer::from(aabb::intersections_against_line(b, origin, direction))
 }
@@ -41,7 +42,7 @@ pub extern "C" fn bgz_aabb_intersections_against_ray(
     direction: Vec2,
 ) -> IntervalAnswer
     ensures answers { result ≡ interval_answer_of (intersections_against_ray_of b origin direction) }
-    ensures means { IsRayAnswer (slabs b origin direction) (intersections_against_ray_of b origin direction) }
+    ensures means { Tells interval_answer_of result (IsRayAnswer (slabs b origin direction)) }
 {
     IntervalAnswer::from(aabb::intersections_against_ray(b, origin, direction))
 }

@@ -1,4 +1,4 @@
--- What stands in a list that is cut into chunks of n. Assumes nothing.
+-- What stands in a list that is cut into chunks of n.
 use mathlib.Core.Path.{◌≡◌, ap, ◌∙◌}
 use mathlib.Core.List.{List}
 use Prim.Native.Nat.{ℕ, zero, suc, ◌+◌, ◌*◌, ◌<◌}

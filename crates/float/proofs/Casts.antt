@@ -1,4 +1,4 @@
--- A whole number of at most 2 ^ 24 is an f32: the cast to one asks no more, and is exact. Assumes nothing.
+-- A whole number of at most 2 ^ 24 is an f32: the cast to one asks no more, and is exact.
 use mathlib.Core.Bool.{false}
 use Prim.Native.Nat.{ℕ, ◌^◌, ◌≤◌}
 use lib.IntN.{pos}

@@ -1,4 +1,4 @@
--- What the exponent's field x and the fraction t of a finite f32's bits stand for, in units of 2 ^ -149. Assumes nothing.
+-- What the exponent's field x and the fraction t of a finite f32's bits stand for, in units of 2 ^ -149.
 use mathlib.Core.Path.{◌≡◌, refl}
 use mathlib.Core.Bool.{Bool, cond}
 use Prim.Native.Nat.{ℕ, zero, suc, ◌+◌, ◌*◌, ◌^◌, ◌<◌}

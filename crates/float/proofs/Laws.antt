@@ -1,4 +1,4 @@
--- When one test is enough for the minimum and the maximum, and which results are numbers. Assumes nothing.
+-- When one test is enough for the minimum and the maximum, and which results are numbers.
 use mathlib.Core.Path.{◌≡◌, refl, sym}
 use mathlib.Core.Bool.{Bool, true, false, cond}
 use lib.Ieee.{Float, nan, inf, fin, lt, is_nan}

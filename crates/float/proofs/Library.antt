@@ -1,4 +1,4 @@
--- The library's absolute value and its test of a finite number are those of specs/Values.antt and of the toolchain. Assumes nothing.
+-- The library's absolute value and its test of a finite number are those of specs/Values.antt and of the toolchain.
 use mathlib.Core.Bool.{false}
 use mathlib.Core.Path.{◌≡◌, refl}
 use lib.Ieee.{Float, nan, inf, fin}

@@ -1,4 +1,4 @@
--- The minimum and the maximum are what document 01 asks for. Assumes nothing.
+-- The minimum and the maximum are what specs/MinMax.antt says.
 use mathlib.Core.Path.{◌≡◌, refl, sym, ◌∙◌}
 use mathlib.Core.Bool.{Bool, true, false, cond, ◌||◌, true≢false}
 use mathlib.Core.Logic.{◌⊎◌, inl, inr}

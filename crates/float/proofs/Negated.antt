@@ -1,4 +1,4 @@
--- The sign of a float: it goes through rounding, turns the order, and turned twice is itself. Assumes nothing.
+-- The sign of a float: it goes through rounding, turns the order, and turned twice is itself.
 use mathlib.Core.Path.{◌≡◌, refl, sym, ap, ◌∙◌}
 use mathlib.Core.Bool.{Bool, true, false, not, cond}
 use Prim.Native.Nat.{ℕ, zero, suc, ◌+◌, ◌*◌, ◌^◌}

@@ -1,5 +1,5 @@
 -- The order of the floats that are numbers: none is below itself, not both of two are below the other, and what is not below a
--- number that is not below a third is not below the third. No float is below the lower infinity, nor above the upper one. Assumes nothing.
+-- number that is not below a third is not below the third. No float is below the lower infinity, nor above the upper one.
 use mathlib.Core.Path.{◌≡◌, refl, sym, ap, ◌∙◌}
 use mathlib.Core.Bool.{Bool, true, false, true≢false}
 use Prim.Native.Nat.{ℕ, ◌+◌, ◌*◌, ◌<◌}

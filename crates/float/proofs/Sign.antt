@@ -1,4 +1,4 @@
--- The zero of a float. Assumes nothing.
+-- The zero of a float.
 use mathlib.Core.Path.{◌≡◌, refl}
 use mathlib.Core.Bool.{Bool, false}
 use Prim.Native.Nat.{ℕ, zero, suc, ◌*◌, ◌^◌}

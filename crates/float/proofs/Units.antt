@@ -1,4 +1,4 @@
--- A finite f32 is fewer than 2 ^ 24 times a power of two, in units of 2 ^ -149: so its units are whole. Assumes nothing.
+-- A finite f32 is fewer than 2 ^ 24 times a power of two, in units of 2 ^ -149: so its units are whole.
 use mathlib.Core.Path.{◌≡◌, refl, sym, ap, ◌∙◌}
 use mathlib.Core.Bool.{Bool, true, false, ◌&&◌}
 use Prim.Native.Nat.{ℕ, zero, suc, ◌+◌, ◌-◌, ◌*◌, ◌%◌, ◌^◌, ◌≤◌, ◌<◌}

@@ -1,4 +1,4 @@
--- What document 01 asks of the minimum and the maximum of two floats. Definitions only.
+-- What the minimum and the maximum of two floats are, a NaN and two zeros among them. Definitions only.
 use Rattle.std.specs.Prelude.{◌≡◌, Bool, false, ◌⊎◌, pos, Float}
 use Rattle.std.specs.Float.{nan, fin}
 use Rattle.std.specs.Float.Ieee.{lt}

@@ -1,4 +1,4 @@
--- A list by its entries. Assumes nothing.
+-- A list by its entries.
 use mathlib.Core.Path.{◌≡◌, refl, sym, ap, ◌∙◌}
 use mathlib.Core.List.{List, [], ◌∷◌, ◌++◌, map}
 use Prim.Native.Nat.{ℕ, zero, suc, ◌<◌}

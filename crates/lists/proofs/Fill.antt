@@ -1,4 +1,4 @@
--- A loop that fills a list from the front, an entry or several a turn. Assumes nothing.
+-- A loop that fills a list from the front, an entry or several a turn.
 use mathlib.Core.Path.{◌≡◌, refl, sym, ap, ◌∙◌}
 use mathlib.Core.List.{List, [], ◌∷◌, ◌++◌, append_assoc, append-nil}
 use Prim.Native.Nat.{ℕ, zero, suc, ◌+◌, ◌<◌, ◌≤◌}

@@ -1,4 +1,4 @@
--- What an answer says of the list that was lent. Assumes nothing.
+-- What an answer says of the list that was lent.
 use mathlib.Core.Path.{◌≡◌, refl, sym, ap, ◌∙◌}
 use mathlib.Core.Bool.{Bool, true, false, cond}
 use mathlib.Core.List.{List, ◌++◌}

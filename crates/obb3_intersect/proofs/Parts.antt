@@ -11,8 +11,8 @@ use Rattle.types.specs.declared.refusal.Refusal.{Refusal}
 use Rattle.types.specs.declared.shape.Obb3.{Obb3}
 use Rattle.types.specs.declared.shape.Vec3.{Vec3}
 use Rattle.vec3.specs.Values.{dot_of, cross_of}
-use Rattle.axes.specs.Axes.{is_yes_of, verdict_of}
-use Rattle.axes.proofs.Decided.{verdict_join}
+use Rattle.axes.specs.Axes.{verdict_of}
+use Rattle.axes.proofs.Decided.{is_yes_of, verdict_join}
 use Rattle.obb3_corners.specs.Corners.{corners_of}
 use Rattle.obb3_intersect.specs.Intersect.{units_of, crosses_of, axes_of, is_intersect_to_obb3_of}
 use Rattle.obb3_intersect.specs.Promise.{IsIntersectToObb3Promise}

@@ -43,7 +43,8 @@ pub record IsThrough (ss : List Slab) (tmin tmax : Float) : Type 0 where
   pub finite_entry : IsTrue (finite tmin)
   pub finite_exit : IsTrue (finite tmax)
 
--- it goes along one outside of it, or out of one before it comes into another
+-- It goes along one outside of it, or out of one before it comes into another. The lowest and the largest finite number count as an entry and an
+-- exit: so a line is past too if it comes into a slab, or goes out of one, only at a parameter beyond the finite numbers.
 abbrev pub IsPast : List Slab → Type 0
 IsPast ss = Any IsBeside ss ⊎ Any (λ x. Any (λ y. y <ᶠ x) (exits ss)) (entries ss)
 

@@ -1,4 +1,4 @@
--- The walk of a stroke, in document 01's words: one coordinate at a time, then the positions. Definitions only.
+-- The walk of a stroke: one coordinate at a time, then the positions. Definitions only.
 use Rattle.std.specs.Prelude.{Bool, true, false, not, ◌&&◌, ◌||◌, List, ℕ, zero, suc, Float}
 use Rattle.std.specs.Float.Ieee.{lt}
 use Rattle.types.specs.declared.shape.Vec2.{Vec2}
