@@ -10,4 +10,4 @@ returns c =
     let normal = c.in_ok-parts.ensures in
     let n = c.number.ensures in
     let rounds : Rounds (c.number.result * 2 ^ 23) c.in_ok-root.root = confirmed c.number.result c.in_ok-root.root n.range.0 n.range.1 (search rules) (search rules) in
-    rw c.base.ensures (root_of_normal c.args.bits p.significand p.exponent c.number.result c.in_ok-root.root normal.normal.0 normal.normal.1 normal.parts n.value rounds)
+    rw c.base.ensures (root_of_normal c.args.bits p.significand p.exponent c.number.result c.in_ok-root.root normal.normal.0 normal.normal.1 normal.parts n.answers rounds)
