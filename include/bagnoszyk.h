@@ -30,8 +30,8 @@
  * null. A pointer must be aligned for its type; that many entries must be readable, and writable unless the pointer is to
  * const. A list of bytes is a pointer to void, so that char serves as well as uint8_t. Lists of one call must not overlap.
  * A routine that writes to a list says which entries it writes; the entries beyond them are left as they are. A box that
- * is lent is a pointer to it, never null. A refused call changes no list and no lent box, but for the text of
- * bgz_hatch_report.
+ * is lent is a pointer to it, never null. A refused call changes no list and no lent box. bgz_hatch_report refuses
+ * nothing: of bytes that are no hatch list its text says so.
  */
 #ifndef BAGNOSZYK_H
 #define BAGNOSZYK_H
@@ -329,13 +329,13 @@ typedef struct bgz_read_answer {
 float bgz_f32_abs(float x);
 
 /*
- * The smaller of two numbers; if one is a NaN, the other.
+ * The smaller of two numbers. Of two zeros it is the first, and of a NaN and a number the number.
  * Example: 2, -1 gives -1.
  */
 float bgz_f32_min(float a, float b);
 
 /*
- * The larger of two numbers; if one is a NaN, the other.
+ * The larger of two numbers. Of two zeros it is the first, and of a NaN and a number the number.
  * Example: 2, -1 gives 2.
  */
 float bgz_f32_max(float a, float b);
@@ -466,7 +466,8 @@ float bgz_edge2_squared_length(bgz_vec2 s, bgz_vec2 e);
 bgz_vec2 bgz_edge2_unit_edge_vector(bgz_vec2 s, bgz_vec2 e);
 
 /*
- * (1 - ratio) * p0 + ratio * p1: p0 at 0, p1 at 1. Any ratio is taken.
+ * (1 - ratio) * p0 + ratio * p1. With finite ends it is p0 at 0 and p1 at 1, but for the sign of a zero. Any ratio is
+ * taken.
  * Example: (0, 0), (4, 8), 0.25 gives (1, 2).
  */
 bgz_vec2 bgz_edge2_position_from_ratio(bgz_vec2 p0, bgz_vec2 p1, float ratio);
@@ -479,22 +480,26 @@ bgz_vec2 bgz_edge2_position_from_ratio(bgz_vec2 p0, bgz_vec2 p1, float ratio);
 float bgz_edge2_ratio_from_position(bgz_vec2 ps, bgz_vec2 pe, bgz_vec2 q);
 
 /*
- * Whether the upright boxes of two edges meet, widened by 2^-23 times the sum of their sides. Where they do not, the
- * edges cannot cross.
+ * Whether the upright boxes of two edges come as near as a slack, which is 2^-23 times the sum of both edges' extents
+ * in x and y. No exactly if in x or in y the high end of one, with the slack added, is below the low end of the other,
+ * as computed. Where the answer is no, the edges do not cross. A NaN or an infinite slack parts nothing.
  * Example: (0, 0), (1, 1), (2, 2), (3, 3) gives false.
  */
 bool bgz_edge2_culling_intersection(bgz_vec2 s0, bgz_vec2 e0, bgz_vec2 s1, bgz_vec2 e1);
 
 /*
- * The point of the edge from s to e that is nearest to (0, 0), with its ratio. An edge whose computed squared length is
- * 0 gives its midpoint, with ratio 0.5.
+ * The point of the edge from s to e that is nearest to (0, 0), with its ratio, but for rounding. An edge whose computed
+ * squared length is 0 gives its midpoint, with ratio 0.5. Where that squared length overflows, the point may be a NaN
+ * or another than the nearest.
  * Example: (-1, 1), (1, 1) gives (0.5, (0, 1)).
  */
 bgz_on_edge bgz_edge2_nearest_origin(bgz_vec2 s, bgz_vec2 e);
 
 /*
- * The point of the edge from s to e that is nearest to p, with its ratio. An edge whose computed squared length is 0
- * gives its midpoint, with ratio 0.5.
+ * The point of the edge from s to e that is nearest to p, with its ratio, but for rounding: it is what
+ * bgz_edge2_nearest_origin gives for the edge from s - p to e - p, with p added. These differences are rounded first,
+ * so for a p that is far from a short edge the point may lie off the edge: (10, 10), (11, 10), (1e8, 10) gives (0.5,
+ * (8, 10)).
  * Example: (0, 0), (4, 0), (1, 5) gives (0.25, (1, 0)).
  */
 bgz_on_edge bgz_edge2_nearest_to_point(bgz_vec2 s, bgz_vec2 e, bgz_vec2 p);
@@ -513,13 +518,16 @@ bgz_float_answer bgz_edge2_intersection_length_against_aabb2(bgz_vec2 s, bgz_vec
 
 /*
  * The ink that the stroke from p0 to p1 leaves in the box b: the length of what it draws there. The stroke's line is
- * clipped against the box, as by bgz_aabb_intersections_against_line with the origin p0 and the direction p1 - p0, and
- * the interval is bounded to 0..1. The ink is the bgz_edge2_length between the positions that
- * bgz_edge2_position_from_ratio gives for the interval's two ends, or 0 if the line misses the box or the bounding
- * leaves nothing. It is finite and not below 0. With both ends in the box, edges included, it is the bgz_edge2_length
- * of the stroke, and nothing further is rounded; with both ends beyond one edge of the box it is 0, and so with equal
- * ends, which are not refused. Otherwise the two positions are rounded, by a few units in the last place of the
- * stroke's largest coordinate, so that the ink may be above the stroke's length.
+ * clipped against the box, as by bgz_aabb_intersections_against_line with the origin p0 and the direction p1 - p0. The
+ * interval is bounded to 0..1. The ink is the bgz_edge2_length between the positions that bgz_edge2_position_from_ratio
+ * gives for the interval's two ends. It is 0 if the line misses the box or the bounding leaves nothing. It is finite
+ * and not below 0. With both ends in the box, edges included, it is exactly the stroke's bgz_edge2_length, with no
+ * further rounding. With both ends beyond one edge of the box it is 0. Equal ends are not refused: their ink is 0.
+ * Otherwise the two positions are rounded, so that the ink may differ from the exact length, and may be above the
+ * stroke's own. No bound on this is proved. The most that a search by running found is 0.0493 from the exact length,
+ * for (-65304.58, -64553.074), (64146.25, 65250.32), (-65536, -31735.12, 65536, 61723.89), and 1/64 above the stroke's
+ * bgz_edge2_length, for (-64281.117, 35206.668), (64216.21, 62848.684), (-64281.113, 0, 65536, 65536). Coordinates half
+ * as large halve both.
  * Refused: BGZ_REFUSED_NOT_FINITE if of the coordinates p0.x, p0.y, p1.x, p1.y the first that offends is not finite,
  * BGZ_REFUSED_COORDINATE if it is above 65,536 in size; then BGZ_REFUSED_ORDER if in x the box is not low <= high, as
  * with a NaN, then the same in y.
@@ -529,12 +537,16 @@ bgz_float_answer bgz_edge2_intersection_length_against_aabb2(bgz_vec2 s, bgz_vec
 bgz_ink_answer bgz_edge2_ink(bgz_vec2 p0, bgz_vec2 p1, bgz_aabb2 b);
 
 /*
- * The pixels under the stroke from p0 to p1, in an image of width by height pixels; a side may be 0. A walk starts at
- * p0. Each step adds the difference of the ends divided by the larger absolute difference, signs kept. The walk goes on
- * while x and y lie within the ends' ranges, widened by 2^-23. Each position in the image enters row * width + column.
- * The first position outside the ranges enters likewise as a closing entry, a negative coordinate as 0. There is always
- * one, last: it is no pixel of the stroke, though it may name one of the image. The stroke's pixels are the entries
- * before it.
+ * The pixels along the stroke from p0 to p1, in an image of width by height pixels; a side may be 0. They are the
+ * pixels of positions a step apart: one that the stroke only crosses between two positions is left out. A walk starts
+ * at p0. Each step adds the difference of the ends divided by the larger absolute difference, signs kept. The walk goes
+ * on while x and y lie within the ends' ranges, widened by 2^-23 and rounded. Each position in the image enters row *
+ * width + column. The first position outside the ranges enters likewise, as a closing entry: there is always one, and
+ * it is the last. A negative coordinate counts as 0 there. The closing entry may name a pixel of the image that the
+ * stroke does not come to. It may also be the pixel of p1: (0.5, 0.5), (3.5, 2.5) in 8 by 8 gives 0, 9, 10 and the
+ * closing entry 19, in which p1 lies. For each step is rounded, and the errors add up: the walk can leave the ranges
+ * long before p1, or end in another row or column than p1. From (0.5, 16000) to (15000.5, 16009) in 16384 by 16384 it
+ * ends in column 9216, and from (0.5, 16000) to (15000.5, 16006) it stays in row 16000.
  * Writes the entries to the start of list and answers how many: never more than bgz_edge2_pixels_bound answers, so a
  * list of that length is never too short.
  * Refused: BGZ_REFUSED_SIZE if width or height is above 16,384; of the coordinates p0.x, p0.y, p1.x, p1.y the first
@@ -548,9 +560,12 @@ bgz_count_answer bgz_edge2_overlapping_pixels_dda(size_t width, size_t height, b
                                                   size_t list_length);
 
 /*
- * The pixels under the stroke from p0 to p1, in an image of width by height pixels; a side may be 0. They are the
- * entries of bgz_edge2_overlapping_pixels_dda without the closing one, so that each is a pixel of the image, below
- * width * height.
+ * The pixels along the stroke from p0 to p1, in an image of width by height pixels; a side may be 0. They are the
+ * entries of bgz_edge2_overlapping_pixels_dda without the closing one. Each is row * width + column of a position of
+ * the walk that lies in the image: the row is below height and the column below width. The last pixels before p1, that
+ * of p1 among them, may be missing, or lie in another row or column, since the walk's rounding adds up: (0.5, 0.5),
+ * (3.5, 2.5) in 8 by 8 gives 0, 9, 10, and not 19, in which p1 lies. How far that goes for a long stroke stands with
+ * bgz_edge2_overlapping_pixels_dda.
  * Writes the entries to the start of list and answers how many: always fewer than bgz_edge2_pixels_bound answers, so a
  * list that is shorter than that by one is never too short.
  * Refused: BGZ_REFUSED_SIZE if width or height is above 16,384; of the coordinates p0.x, p0.y, p1.x, p1.y the first
@@ -564,10 +579,10 @@ bgz_count_answer bgz_edge2_pixels_inside(size_t width, size_t height, bgz_vec2 p
 
 /*
  * How many entries the stroke from p0 to p1 makes at most in an image of width by height pixels, the closing one among
- * them: 2 * D + 2, or one more than the longer of width and height if that is less. D is the larger of the differences
- * between the ends in x and in y, exact and not as floats round it, then rounded up to a whole number. A list of this
- * length is never too short for bgz_edge2_overlapping_pixels_dda, and one that is shorter by one never for
- * bgz_edge2_pixels_inside.
+ * them. It is 2 * D + 2, or one more than the longer of width and height if that is less. D is the larger of the exact
+ * differences between the ends in x and in y, not as floats round them, then rounded up to a whole number. A list of
+ * this length is never too short for bgz_edge2_overlapping_pixels_dda. One that is shorter by one is never too short
+ * for bgz_edge2_pixels_inside.
  * Refused: BGZ_REFUSED_SIZE if width or height is above 16,384; of the coordinates p0.x, p0.y, p1.x, p1.y the first
  * that offends decides: BGZ_REFUSED_NOT_FINITE if it is not finite, BGZ_REFUSED_COORDINATE if it is above 65,536 in
  * size; BGZ_REFUSED_SAME_ENDS if p0 equals p1.
@@ -579,12 +594,14 @@ bgz_count_answer bgz_edge2_pixels_bound(size_t width, size_t height, bgz_vec2 p0
 /* ---- aabb: upright boxes: clipping lines, and what is inside. */
 
 /*
- * The stretch of the line origin + t * direction in the box b: tmin <= tmax, both finite. None if the line misses b;
- * touching an edge or a corner is a hit. Where a component of direction is a zero, that dimension only tests that
- * origin is not outside. t keeps its sign: a line may be in the box only at negative t. Where nothing bounds t it is
- * held to the finite numbers, -3.4028235e38 to 3.4028235e38. An edge whose t is a NaN drops out, so that t is that of
- * the opposite edge; where both drop out, as with a NaN in origin or direction, that dimension bounds nothing. A box
- * reversed in a dimension is taken as ordered there, unless that component of direction is a zero.
+ * The stretch of the line origin + t * direction in the box b, edges included: from tmin to tmax, tmin <= tmax, both
+ * finite. None if the line misses b. The t at which the line meets an edge is (edge - origin) / direction, as computed:
+ * rounding can turn a touched corner into a miss, and a narrow miss into a hit. t keeps its sign: a line may be in the
+ * box only at negative t. It is held to the finite numbers, -3.4028235e38 to 3.4028235e38: where nothing bounds t these
+ * two are the answer, and a line that is in the box only beyond them misses it. Where a component of direction is a
+ * zero, that dimension only tests that origin is not outside. An edge whose t is a NaN drops out: that dimension has
+ * the opposite edge's t alone. Where both drop out, as with a NaN in origin or direction, that dimension bounds
+ * nothing. A box reversed in a dimension is taken as ordered there, unless that component of direction is a zero.
  * Example: (0, 0, 4, 2), (6, -1), (-1, 1) gives (2, 3).
  */
 bgz_interval_answer bgz_aabb_intersections_against_line(bgz_aabb2 b, bgz_vec2 origin, bgz_vec2 direction);
@@ -610,7 +627,7 @@ bgz_count_answer bgz_aabb_intersections_against_lines(bgz_aabb2 b, const float *
                                                       size_t out_length);
 
 /*
- * Whether p is in b, edges included. A NaN is outside.
+ * Whether p is in b, edges included. With a NaN in p or in b it is not.
  * Example: (0, 0, 4, 2), (4, 1) gives true.
  */
 bool bgz_aabb_is_include_point(bgz_aabb2 b, bgz_vec2 p);
@@ -631,19 +648,20 @@ bgz_vec2 bgz_aabb_center(bgz_aabb2 b);
 bgz_box_answer bgz_aabb2_from_point(bgz_vec2 p, float radius);
 
 /*
- * The box around the two boxes from p - radius to p + radius and from q - radius to q + radius. Any radius is taken.
+ * The box from the minimum of p - radius and q - radius to the maximum of p + radius and q + radius, by component. Any
+ * radius is taken: one below 0 can reverse the box.
  * Example: (0, 0), (3, 1), 1 gives (-1, -1, 4, 2).
  */
 bgz_aabb2 bgz_aabb2_from_two_points(bgz_vec2 p, bgz_vec2 q, float radius);
 
 /*
- * The box around two boxes: minimum of the low corners, maximum of the high ones.
+ * The box around two boxes: the minimum of the low corners and the maximum of the high ones, by component.
  * Example: (0, 0, 1, 1), (2, -1, 3, 0) gives (0, -1, 3, 1).
  */
 bgz_aabb2 bgz_aabb2_from_two_aabbs(bgz_aabb2 a, bgz_aabb2 b);
 
 /*
- * b widened to hold the box from p - radius to p + radius. A NaN is dropped, as by minimum and maximum.
+ * b widened to hold the box from p - radius to p + radius, by minimum and maximum. A NaN is dropped.
  * Refused: BGZ_REFUSED_RADIUS if radius is not at least 0, as with a NaN.
  * Example: (0, 0, 1, 1), (3, 0), 0 gives (0, 0, 3, 1).
  */
@@ -651,8 +669,8 @@ bgz_box_answer bgz_aabb2_add_point(bgz_aabb2 b, bgz_vec2 p, float radius);
 
 /*
  * The pixels of an image of width by height whose centres lie in b, low edge in and high edge out. x0 and y0 are not
- * held to the image, so x0 may be above x1, and y0 above y1: then there are none. A NaN in the low corner gives 0, and
- * in the high corner the whole side. A side may be 0.
+ * held to the image: where x0 is not below x1, or y0 not below y1, there are none. A NaN at a low end counts as 0, and
+ * one at a high end as the whole side. A side may be 0.
  * Refused: BGZ_REFUSED_SIZE if width or height is above 16,384.
  * Example: (0.25, 0.25, 2.5, 1.75), 8, 8 gives (0, 0, 2, 2).
  */
@@ -671,16 +689,17 @@ bgz_vec2 bgz_aabb2_center(bgz_aabb2 b);
 float bgz_aabb2_max_edge_size(bgz_aabb2 b);
 
 /*
- * The box around the images of the four corners of b under m. A coordinate that is a NaN is left out; where all four
- * are, the box goes from +infinity to -infinity.
+ * The box around the images of the four corners of b under m. A coordinate that is a NaN is left out. Where all four
+ * are, the box goes from +infinity to -infinity in that dimension.
  * Refused: BGZ_REFUSED_NO_IMAGE if a corner has none: see bgz_mat3_transform_homogeneous.
  * Example: (0, 0, 1, 1), (2, 0, 0, 0, 2, 0, 1, 0, 1) gives (1, 0, 3, 2).
  */
 bgz_box_answer bgz_aabb2_transform_homogeneous(bgz_aabb2 b, bgz_mat3 m);
 
 /*
- * The transform that takes b into the unit square, both axes scaled by 1 / (the longer side), the centre to (0.5, 0.5).
- * A box whose longer side is 0 gives infinities or NaN.
+ * The transform that scales both axes by 1 / (the longer side) and takes the centre of b to (0.5, 0.5). It takes b into
+ * the unit square, but for rounding, where b is not reversed and the nine numbers are finite. A longer side of 0 gives
+ * infinities or NaN.
  * Example: (0, 0, 4, 2) gives (0.25, 0, 0, 0, 0.25, 0, 0, 0.25, 1).
  */
 bgz_mat3 bgz_aabb2_to_transformation_world2unit_ortho_preserve_asp(bgz_aabb2 b);
@@ -692,8 +711,9 @@ bgz_mat3 bgz_aabb2_to_transformation_world2unit_ortho_preserve_asp(bgz_aabb2 b);
 bool bgz_aabb2_is_include_point2(bgz_aabb2 b, bgz_vec2 p);
 
 /*
- * Whether the square from p - radius to p + radius overlaps b. Touching is not overlapping. A NaN in p or in b does not
- * part them; with a NaN radius the answer is false.
+ * Whether the square from p - radius to p + radius overlaps b: in x and in y, as computed, radius is above how far p
+ * lies from the middle of b, less half the length of b. Touching is not overlapping. A dimension in which that is a NaN
+ * parts nothing; where it is one in both, or radius is one, the answer is false.
  * Example: (0, 0, 4, 2), (5, 1), 2 gives true.
  */
 bool bgz_aabb2_is_intersect_square(bgz_aabb2 b, bgz_vec2 p, float radius);
@@ -706,14 +726,15 @@ bool bgz_aabb2_is_intersect_square(bgz_aabb2 b, bgz_vec2 p, float radius);
 bgz_point_answer bgz_aabb2_nearest_point2(bgz_aabb2 b, bgz_vec2 p);
 
 /*
- * The signed distance from p to the edge of b: positive outside, negative inside, but for rounding. A NaN is dropped,
- * as by maximum.
+ * The signed distance from p to the edge of b: positive outside, negative inside, but for rounding, if b is not
+ * reversed and the sum of its corners is finite in x and in y. A NaN is dropped, as by maximum.
  * Example: (0, 0, 4, 2), (7, 6) gives 5.
  */
 float bgz_aabb2_sdf(bgz_aabb2 b, bgz_vec2 p);
 
 /*
- * b with its sides s times as long, about its centre. A negative s exchanges the corners.
+ * b with its sides s times as long, about its centre. Ends are rounded, and may overflow. A negative s exchanges the
+ * low and the high ends.
  * Example: (0, 0, 4, 2), 2 gives (-2, -1, 6, 3).
  */
 bgz_aabb2 bgz_aabb2_scale(bgz_aabb2 b, float s);
@@ -725,13 +746,13 @@ bgz_aabb2 bgz_aabb2_scale(bgz_aabb2 b, float s);
 bgz_aabb2 bgz_aabb2_translate(bgz_aabb2 b, bgz_vec2 t);
 
 /*
- * The tiles that b overlaps, on a sheet of shape_width by shape_height square tiles of side size: columns from
- * floor(min_x / size) up to and with floor(max_x / size), rows likewise, each quotient rounded; those off the sheet are
- * skipped. A tile's number is row * shape_width + column. A box reversed in x has a column only if both ends lie in it,
- * and likewise a row in y. A side of the shape may be 0. Where the box is not reversed and each of its coordinates is
- * zero or at least 2^-100 in size, the tiles are the smallest set of the sheet's tiles that covers what of it lies on
- * the sheet. A tile holds its low edges and not its high ones, so a box that ends on a tile's high edge has the next
- * tile too.
+ * The tiles that b overlaps, on a sheet of shape_width by shape_height square tiles of side size. Columns go from
+ * floor(min_x / size) up to and with floor(max_x / size), each quotient rounded, and rows likewise; those off the sheet
+ * are skipped. A tile's number is row * shape_width + column. A tile holds its low edges and not its high ones, so a
+ * box that ends on a tile's high edge has the next tile too, if the sheet has one. Where the box is not reversed and
+ * each of its coordinates is zero or at least 2^-100 in size, the tiles are the smallest set of the sheet's tiles that
+ * covers the box: each point of it that has f32 coordinates and lies on the sheet. A box reversed in x has a column
+ * only if both ends lie in it, and likewise a row in y. A side of the shape may be 0.
  * Writes the numbers, rising, to the start of out and answers how many; 0 is an answer too.
  * Refused: BGZ_REFUSED_SIZE if size is 0 or above 4,096, or shape_width or shape_height is above 16,384;
  * BGZ_REFUSED_COORDINATE if a coordinate of b is not finite or is above 1,048,576 in size; BGZ_REFUSED_ROOM if out is
@@ -778,15 +799,16 @@ uint32_t bgz_aabb2_add_point_lent(bgz_aabb2 *b, bgz_vec2 p, float radius);
 bgz_corners bgz_obb2_corner_points(bgz_obb2 o);
 
 /*
- * Whether p is in o, edges included, by its dot products with u and v. A product that is a NaN counts as inside, and a
- * half edge of length 0 does not bound its direction.
+ * Whether p is in o, edges included, by its dot products with u and v, as computed. Where u and v are at a right angle
+ * and no product overflows or underflows, that is the box, but for rounding. Else it is another region. A product that
+ * is a NaN counts as inside, and a half edge of length 0 does not bound its direction.
  * Example: (0, 0, 2, 0, 0, 1), (1, 1) gives true.
  */
 bool bgz_obb2_is_include_point2(bgz_obb2 o, bgz_vec2 p);
 
 /*
- * p itself if bgz_obb2_is_include_point2 says so; else the nearest of the four edges' nearest points, the first of
- * equals.
+ * p itself if bgz_obb2_is_include_point2 says so; else the nearest of the points that bgz_edge2_nearest_to_point gives
+ * for the four edges, the first of equals.
  * Refused: BGZ_REFUSED_NAN_LENGTH if p is not included and its distance to one of the four is a NaN.
  * Example: (0, 0, 2, 0, 0, 1), (5, 0) gives (2, 0).
  */
@@ -794,9 +816,11 @@ bgz_point_answer bgz_obb2_nearest_point2(bgz_obb2 o, bgz_vec2 p);
 
 /*
  * Whether two turned boxes meet: no exactly if on some axis across a half edge of a or of b the computed projections of
- * the corners of one lie strictly below those of the other. Ranges whose computed ends are equal overlap; rounding
- * parts some boxes that touch. The order of a and b does not matter. A half edge of length 0 gives no axis, so boxes
- * that only that axis would part count as meeting.
+ * the corners of one lie strictly below those of the other. Ranges whose computed ends are equal overlap. Rounding
+ * parts some boxes that touch, and joins some that lie close. The order of a and b does not matter. Across a half edge
+ * of length 0 every finite corner projects to 0, so boxes that only that axis would part count as meeting. Projections
+ * that are NaN are left out. Where a box has no others on an axis, that axis parts it from the other box, unless that
+ * one reaches from -infinity to +infinity there.
  * Example: (0, 0, 1, 0, 0, 1), (3, 0, 1, 0, 0, 1) gives false.
  */
 bool bgz_obb2_is_intersect_obb2(bgz_obb2 a, bgz_obb2 b);
@@ -804,8 +828,10 @@ bool bgz_obb2_is_intersect_obb2(bgz_obb2 a, bgz_obb2 b);
 /*
  * Whether a turned and an upright box meet: no exactly if on some axis (x, y, and those across u and v) the computed
  * projections of the corners of one lie strictly below those of the other. Ranges whose computed ends are equal
- * overlap; rounding parts some boxes that touch. A half edge of length 0 gives no axis, so boxes that only that axis
- * would part count as meeting.
+ * overlap. Rounding parts some boxes that touch, and joins some that lie close. Across a half edge of length 0 every
+ * finite corner projects to 0, so boxes that only that axis would part count as meeting. Projections that are NaN are
+ * left out. Where a box has no others on an axis, that axis parts it from the other box, unless that one reaches from
+ * -infinity to +infinity there.
  * Example: (0, 0, 1, 1, -1, 1), (1, 1, 3, 3) gives true.
  */
 bool bgz_obb2_is_intersect_aabb2(bgz_obb2 o, bgz_aabb2 b);
@@ -814,13 +840,15 @@ bool bgz_obb2_is_intersect_aabb2(bgz_obb2 o, bgz_aabb2 b);
 
 /*
  * The stretch of the line origin + t * direction in the box b, as bgz_aabb_intersections_against_line has it, with z
- * after x and y: tmin <= tmax, both finite. None if the line misses b; touching a face, an edge or a corner is a hit.
+ * after x and y: from tmin to tmax, tmin <= tmax, both finite, faces included. None if the line misses b. Rounding can
+ * turn a touched edge or corner into a miss, and a narrow miss into a hit. A line that is in the box only at t beyond
+ * the finite numbers misses it.
  * Example: (0, 0, 0, 4, 2, 1), (6, -1, 0.5), (-1, 1, 0) gives (2, 3).
  */
 bgz_interval_answer bgz_aabb_3_intersections_against_line(bgz_aabb3 b, bgz_vec3 origin, bgz_vec3 direction);
 
 /*
- * Whether p is in b, faces included. A NaN is outside, unlike for bgz_aabb3_is_contain.
+ * Whether p is in b, faces included. With a NaN in p or in b it is not, unlike for bgz_aabb3_is_contain.
  * Example: (0, 0, 0, 4, 2, 1), (4, 1, 1) gives true.
  */
 bool bgz_aabb_3_is_include_point(bgz_aabb3 b, bgz_vec3 p);
@@ -857,9 +885,8 @@ bgz_aabb3 bgz_aabb3_from_two_aabbs(bgz_aabb3 a, bgz_aabb3 b);
 bgz_aabb3 bgz_aabb3_set_as_cube(bgz_vec3 p, float eps);
 
 /*
- * b widened to the low ends p - eps and the high ends p + eps, by minimum and maximum. Any eps is taken: one below 0
- * lowers a low end to no less than p + |eps| and raises a high end to no more than p - |eps|, so that the box need not
- * hold p.
+ * b widened to the low ends p - eps and the high ends p + eps, by minimum and maximum. A NaN is dropped. Any eps is
+ * taken: with one below 0 the box need not hold p.
  * Example: (0, 0, 0, 1, 1, 1), (3, 0, 0), 0 gives (0, 0, 0, 3, 1, 1).
  */
 bgz_aabb3 bgz_aabb3_add_point(bgz_aabb3 b, bgz_vec3 p, float eps);
@@ -884,7 +911,7 @@ bgz_vec3 bgz_aabb3_size(bgz_aabb3 b);
 bgz_aabb3 bgz_aabb3_scale(bgz_aabb3 b, float s);
 
 /*
- * The product of the edges, x times y times z. Of a box reversed in one dimension or in three it is negative or a zero.
+ * The product of the edges, x times y times z. The edge of a reversed dimension is negative.
  * Example: (0, 0, 0, 4, 2, 3) gives 24.
  */
 float bgz_aabb3_volume(bgz_aabb3 b);
@@ -975,8 +1002,10 @@ bgz_box3_answer bgz_aabb3_from_slice(const float *s, size_t s_length);
 bgz_corners3 bgz_obb3_corner_points(bgz_obb3 o);
 
 /*
- * Whether p is in o, faces included, by its dot products with u, v and w, each edge stretched by 1 + eps. A product
- * that is a NaN counts as inside, and a half edge of length 0 does not bound its direction.
+ * Whether p is in o, faces included, by its dot products with u, v and w, as computed, each edge stretched by 1 + eps.
+ * With an eps of 0, where u, v and w are at right angles and no product overflows or underflows, that is the box, but
+ * for rounding. Else it is another region. A product that is a NaN counts as inside, and a half edge of length 0 does
+ * not bound its direction.
  * Example: (0, 0, 0, 2, 0, 0, 0, 1, 0, 0, 0, 1), (2, 1, 1), 0 gives true.
  */
 bool bgz_obb3_is_include_point(bgz_obb3 o, bgz_vec3 p, float eps);
@@ -985,7 +1014,7 @@ bool bgz_obb3_is_include_point(bgz_obb3 o, bgz_vec3 p, float eps);
  * Whether two turned boxes meet: no if on some axis the computed projections of the corners of one lie strictly below
  * those of the other. There are fifteen: u, v and w of a, each times 1 / its norm, those of b, and the cross product of
  * each of these of a with each of b. The first axis that parts the boxes, or on which a projection is a NaN, decides.
- * Ranges whose computed ends are equal overlap; rounding parts some boxes that touch.
+ * Ranges whose computed ends are equal overlap. Rounding parts some boxes that touch, and joins some that lie close.
  * Refused: BGZ_REFUSED_NAN_PROJECTION if a projection is a NaN on an axis that is reached, whether it parts the boxes
  * or not; as with a half edge of length 0.
  * Example: (0, 0, 0, 1, 0, 0, 0, 1, 0, 0, 0, 1), (3, 0, 0, 1, 0, 0, 0, 1, 0, 0, 0, 1) gives false.
@@ -1029,10 +1058,10 @@ bgz_read_answer bgz_hatch_read_patterns(const void *bytes, size_t bytes_length, 
 size_t bgz_hatch_record_count(const float *floats, size_t floats_length);
 
 /*
- * A hatch list of version 1 from the bits of its floats, eight a record. The length of patterns / 8, rounded down, is
- * the number n of records: an incomplete last one does not count. To save what bgz_hatch_read_patterns read, hand over
- * the 8 * count patterns that it wrote: they are written as the bytes that they were read from, those of a NaN
- * included. Whatever is written, bgz_hatch_read_patterns reads as the same records.
+ * A hatch list of version 1 from the bits of its floats, eight a record. The number n of records is the length of
+ * patterns / 8, rounded down: an incomplete last record is not written. What is written, bgz_hatch_read_patterns reads
+ * as the same records. To save what bgz_hatch_read_patterns read, hand over the 8 * count patterns that it wrote: the
+ * bytes are those that it read, also where a float is a NaN.
  * Writes 7 + 32 * n bytes to the start of out and answers how many that is; BGZ_HATCH_BYTES_MAX are room for any.
  * Refused: BGZ_REFUSED_COUNT if n is above 2,000; BGZ_REFUSED_ROOM if out is shorter than 7 + 32 * n.
  * Example: [1, 2, 3, 4, 5, 6, 7, 8], [9; 40] gives 39 and leaves [72, 83, 76, 1, 0, 1, 0, 1, 0, 0, 0, 2, 0, 0, 0, 3, 0,
@@ -1042,9 +1071,10 @@ bgz_count_answer bgz_hatch_write_patterns(const uint32_t *patterns, size_t patte
                                           size_t out_length);
 
 /*
- * bgz_hatch_write_patterns from the floats themselves, n records of eight. A number is written with its own bits, the
- * sign of a zero too, and a NaN with the bits 7fc00000, whatever its own were: to save what was read, patterns serve,
- * which keep them. bgz_hatch_read_floats reads the same floats again.
+ * bgz_hatch_write_patterns from the floats themselves, n records of eight. A NaN is written with the bits 7fc00000,
+ * whatever its own are, and every other float with its own bits. What is written, bgz_hatch_read_floats reads as the
+ * same records. The floats that it read are written as the bytes that it read if the file's NaNs have the bits
+ * 7fc00000; bgz_hatch_read_patterns and bgz_hatch_write_patterns keep the bits of every NaN.
  * Writes 7 + 32 * n bytes to the start of out and answers how many that is.
  * Refused: as bgz_hatch_write_patterns is.
  * Example: [0, 0, 4, 2, 6, -1, -1, 1], [9; 40] gives 39 and leaves [72, 83, 76, 1, 0, 1, 0, 0, 0, 0, 0, 0, 0, 0, 0, 0,
@@ -1053,12 +1083,15 @@ bgz_count_answer bgz_hatch_write_patterns(const uint32_t *patterns, size_t patte
 bgz_count_answer bgz_hatch_write_floats(const float *floats, size_t floats_length, void *out, size_t out_length);
 
 /*
- * The report on a hatch list, as text: each record clipped as a line. "HSL", version and count; then for each record a
- * line with its place from 1 and "miss", or "hit" with tmin and tmax as eight hexadecimal digits of their bits, any
- * zero as 00000000. Fields stand one space apart, and a line ends in a line feed. For bytes that are no hatch list the
- * text is "refused", the number and the byte that bgz_hatch_read_floats gives.
- * Writes as much of the text as out has room for to its start, with no NUL after it, and answers the bytes of the whole
- * text.
+ * The report on a hatch list, as text in ASCII. The first line is "HSL", version and count. Then each record has a line
+ * of its own: its place from 1, and what bgz_aabb_intersections_against_line answers for its box, origin and direction:
+ * "miss", or "hit" with tmin and tmax, each as the eight lower-case hexadecimal digits of its bits, any zero as
+ * 00000000. Fields stand one space apart, and a line ends in a line feed. For bytes that are no hatch list the only
+ * line is "refused", the number of the refusal of bgz_hatch_read_floats, and its byte. Bytes beyond the first
+ * BGZ_HATCH_BYTES_MAX + 1 change nothing: they need not be handed over.
+ * Writes the text to the start of out, with no NUL after it, and answers its length in bytes. If out is shorter, it is
+ * filled with the first bytes of the text, and the answer is still the whole length; BGZ_HATCH_REPORT_MAX are room for
+ * any.
  * Example: "HSL\1\0\0\0", [0; 8] gives 8 and leaves "HSL 1 0\n".
  */
 size_t bgz_hatch_report(const void *bytes, size_t bytes_length, void *out, size_t out_length);

@@ -7,7 +7,7 @@ use crate::refusal::Refusal;
 use crate::shapes::{Aabb2, Vec2};
 
 unsafe extern "C" {
-    /// Whether `p` is in `b`, edges included. A NaN is outside.
+    /// Whether `p` is in `b`, edges included. With a NaN in `p` or in `b` it is not.
     ///
     /// # Example
     ///
@@ -65,14 +65,16 @@ mod raw {
     }
 }
 
-/// The stretch of the line `origin` + t * `direction` in the box `b`: tmin <= tmax, both finite.
-/// None if the line misses `b`; touching an edge or a corner is a hit. Where a component of
-/// `direction` is a zero, that dimension only tests that `origin` is not outside. t keeps its sign:
-/// a line may be in the box only at negative t. Where nothing bounds t it is held to the finite
-/// numbers, -3.4028235e38 to 3.4028235e38. An edge whose t is a NaN drops out, so that t is that of
-/// the opposite edge; where both drop out, as with a NaN in `origin` or `direction`, that dimension
-/// bounds nothing. A box reversed in a dimension is taken as ordered there, unless that component
-/// of `direction` is a zero.
+/// The stretch of the line `origin` + t * `direction` in the box `b`, edges included: from tmin to
+/// tmax, tmin <= tmax, both finite. None if the line misses `b`. The t at which the line meets an
+/// edge is (edge - `origin`) / `direction`, as computed: rounding can turn a touched corner into a
+/// miss, and a narrow miss into a hit. t keeps its sign: a line may be in the box only at negative
+/// t. It is held to the finite numbers, -3.4028235e38 to 3.4028235e38: where nothing bounds t these
+/// two are the answer, and a line that is in the box only beyond them misses it. Where a component
+/// of `direction` is a zero, that dimension only tests that `origin` is not outside. An edge whose
+/// t is a NaN drops out: that dimension has the opposite edge's t alone. Where both drop out, as
+/// with a NaN in `origin` or `direction`, that dimension bounds nothing. A box reversed in a
+/// dimension is taken as ordered there, unless that component of `direction` is a zero.
 ///
 /// # Example
 ///

@@ -9,8 +9,9 @@ use crate::refusal::Refusal;
 use crate::shapes::{Aabb2, Mat3, Vec2};
 
 unsafe extern "C" {
-    /// The box around the two boxes from `p` - `radius` to `p` + `radius` and from `q` - `radius`
-    /// to `q` + `radius`. Any radius is taken.
+    /// The box from the minimum of `p` - `radius` and `q` - `radius` to the maximum of `p` +
+    /// `radius` and `q` + `radius`, by component. Any radius is taken: one below 0 can reverse the
+    /// box.
     ///
     /// # Example
     ///
@@ -24,7 +25,8 @@ unsafe extern "C" {
     #[link_name = "bgz_aabb2_from_two_points"]
     pub safe fn from_two_points(p: Vec2, q: Vec2, radius: f32) -> Aabb2;
 
-    /// The box around two boxes: minimum of the low corners, maximum of the high ones.
+    /// The box around two boxes: the minimum of the low corners and the maximum of the high ones,
+    /// by component.
     ///
     /// # Example
     ///
@@ -64,8 +66,9 @@ unsafe extern "C" {
     #[link_name = "bgz_aabb2_max_edge_size"]
     pub safe fn max_edge_size(b: Aabb2) -> f32;
 
-    /// The transform that takes `b` into the unit square, both axes scaled by 1 / (the longer
-    /// side), the centre to (0.5, 0.5). A box whose longer side is 0 gives infinities or NaN.
+    /// The transform that scales both axes by 1 / (the longer side) and takes the centre of `b` to
+    /// (0.5, 0.5). It takes `b` into the unit square, but for rounding, where `b` is not reversed
+    /// and the nine numbers are finite. A longer side of 0 gives infinities or NaN.
     ///
     /// # Example
     ///
@@ -92,9 +95,10 @@ unsafe extern "C" {
     #[link_name = "bgz_aabb2_is_include_point2"]
     pub safe fn is_include_point2(b: Aabb2, p: Vec2) -> bool;
 
-    /// Whether the square from `p` - `radius` to `p` + `radius` overlaps `b`. Touching is not
-    /// overlapping. A NaN in `p` or in `b` does not part them; with a NaN radius the answer is
-    /// false.
+    /// Whether the square from `p` - `radius` to `p` + `radius` overlaps `b`: in x and in y, as
+    /// computed, `radius` is above how far `p` lies from the middle of `b`, less half the length of
+    /// `b`. Touching is not overlapping. A dimension in which that is a NaN parts nothing; where it
+    /// is one in both, or `radius` is one, the answer is false.
     ///
     /// # Example
     ///
@@ -109,7 +113,8 @@ unsafe extern "C" {
     pub safe fn is_intersect_square(b: Aabb2, p: Vec2, radius: f32) -> bool;
 
     /// The signed distance from `p` to the edge of `b`: positive outside, negative inside, but for
-    /// rounding. A NaN is dropped, as by maximum.
+    /// rounding, if `b` is not reversed and the sum of its corners is finite in x and in y. A NaN
+    /// is dropped, as by maximum.
     ///
     /// # Example
     ///
@@ -123,8 +128,8 @@ unsafe extern "C" {
     #[link_name = "bgz_aabb2_sdf"]
     pub safe fn sdf(b: Aabb2, p: Vec2) -> f32;
 
-    /// `b` with its sides `s` times as long, about its centre. A negative `s` exchanges the
-    /// corners.
+    /// `b` with its sides `s` times as long, about its centre. Ends are rounded, and may overflow.
+    /// A negative `s` exchanges the low and the high ends.
     ///
     /// # Example
     ///
@@ -215,8 +220,8 @@ pub fn from_point(p: Vec2, radius: f32) -> Result<Aabb2, Refusal> {
     raw::from_point(p, radius).result()
 }
 
-/// `b` widened to hold the box from `p` - `radius` to `p` + `radius`. A NaN is dropped, as by
-/// minimum and maximum.
+/// `b` widened to hold the box from `p` - `radius` to `p` + `radius`, by minimum and maximum. A NaN
+/// is dropped.
 ///
 /// # Errors
 ///
@@ -237,8 +242,8 @@ pub fn add_point(b: Aabb2, p: Vec2, radius: f32) -> Result<Aabb2, Refusal> {
 }
 
 /// The pixels of an image of `width` by `height` whose centres lie in `b`, low edge in and high
-/// edge out. x0 and y0 are not held to the image, so x0 may be above x1, and y0 above y1: then
-/// there are none. A NaN in the low corner gives 0, and in the high corner the whole side. A side
+/// edge out. x0 and y0 are not held to the image: where x0 is not below x1, or y0 not below y1,
+/// there are none. A NaN at a low end counts as 0, and one at a high end as the whole side. A side
 /// may be 0.
 ///
 /// # Errors
@@ -259,7 +264,7 @@ pub fn rasterize(b: Aabb2, width: usize, height: usize) -> Result<Pixels, Refusa
 }
 
 /// The box around the images of the four corners of `b` under `m`. A coordinate that is a NaN is
-/// left out; where all four are, the box goes from +infinity to -infinity.
+/// left out. Where all four are, the box goes from +infinity to -infinity in that dimension.
 ///
 /// # Errors
 ///
@@ -301,13 +306,14 @@ pub fn nearest_point2(b: Aabb2, p: Vec2) -> Result<Vec2, Refusal> {
 }
 
 /// The tiles that `b` overlaps, on a sheet of `shape_width` by `shape_height` square tiles of side
-/// `size`: columns from floor(min_x / `size`) up to and with floor(max_x / `size`), rows likewise,
-/// each quotient rounded; those off the sheet are skipped. A tile's number is row * `shape_width` +
-/// column. A box reversed in x has a column only if both ends lie in it, and likewise a row in y. A
-/// side of the shape may be 0. Where the box is not reversed and each of its coordinates is zero or
-/// at least 2^-100 in size, the tiles are the smallest set of the sheet's tiles that covers what of
-/// it lies on the sheet. A tile holds its low edges and not its high ones, so a box that ends on a
-/// tile's high edge has the next tile too.
+/// `size`. Columns go from floor(min_x / `size`) up to and with floor(max_x / `size`), each
+/// quotient rounded, and rows likewise; those off the sheet are skipped. A tile's number is row *
+/// `shape_width` + column. A tile holds its low edges and not its high ones, so a box that ends on
+/// a tile's high edge has the next tile too, if the sheet has one. Where the box is not reversed
+/// and each of its coordinates is zero or at least 2^-100 in size, the tiles are the smallest set
+/// of the sheet's tiles that covers the box: each point of it that has f32 coordinates and lies on
+/// the sheet. A box reversed in x has a column only if both ends lie in it, and likewise a row in
+/// y. A side of the shape may be 0.
 ///
 /// Writes the numbers, rising, to the start of `out` and answers how many; 0 is an answer too.
 ///

@@ -37,8 +37,7 @@ unsafe extern "C" {
     pub safe fn set_as_cube(p: Vec3, eps: f32) -> Aabb3;
 
     /// `b` widened to the low ends `p` - `eps` and the high ends `p` + `eps`, by minimum and
-    /// maximum. Any `eps` is taken: one below 0 lowers a low end to no less than p + |eps| and
-    /// raises a high end to no more than p - |eps|, so that the box need not hold `p`.
+    /// maximum. A NaN is dropped. Any `eps` is taken: with one below 0 the box need not hold `p`.
     ///
     /// # Example
     ///
@@ -92,8 +91,7 @@ unsafe extern "C" {
     #[link_name = "bgz_aabb3_scale"]
     pub safe fn scale(b: Aabb3, s: f32) -> Aabb3;
 
-    /// The product of the edges, x times y times z. Of a box reversed in one dimension or in three
-    /// it is negative or a zero.
+    /// The product of the edges, x times y times z. The edge of a reversed dimension is negative.
     ///
     /// # Example
     ///

@@ -6,7 +6,7 @@ use crate::answers::Interval;
 use crate::shapes::{Aabb3, Vec3};
 
 unsafe extern "C" {
-    /// Whether `p` is in `b`, faces included. A NaN is outside, unlike for
+    /// Whether `p` is in `b`, faces included. With a NaN in `p` or in `b` it is not, unlike for
     /// [`aabb3::is_contain`](crate::aabb3::is_contain).
     ///
     /// # Example
@@ -58,8 +58,9 @@ mod raw {
 
 /// The stretch of the line `origin` + t * `direction` in the box `b`, as
 /// [`aabb::intersections_against_line`](crate::aabb::intersections_against_line) has it, with z
-/// after x and y: tmin <= tmax, both finite. None if the line misses `b`; touching a face, an edge
-/// or a corner is a hit.
+/// after x and y: from tmin to tmax, tmin <= tmax, both finite, faces included. None if the line
+/// misses `b`. Rounding can turn a touched edge or corner into a miss, and a narrow miss into a
+/// hit. A line that is in the box only at t beyond the finite numbers misses it.
 ///
 /// # Example
 ///

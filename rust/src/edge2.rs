@@ -49,7 +49,8 @@ unsafe extern "C" {
     #[link_name = "bgz_edge2_unit_edge_vector"]
     pub safe fn unit_edge_vector(s: Vec2, e: Vec2) -> Vec2;
 
-    /// (1 - `ratio`) * `p0` + `ratio` * `p1`: `p0` at 0, `p1` at 1. Any ratio is taken.
+    /// (1 - `ratio`) * `p0` + `ratio` * `p1`. With finite ends it is `p0` at 0 and `p1` at 1, but
+    /// for the sign of a zero. Any ratio is taken.
     ///
     /// # Example
     ///
@@ -80,8 +81,10 @@ unsafe extern "C" {
     #[link_name = "bgz_edge2_ratio_from_position"]
     pub safe fn ratio_from_position(ps: Vec2, pe: Vec2, q: Vec2) -> f32;
 
-    /// Whether the upright boxes of two edges meet, widened by 2^-23 times the sum of their sides.
-    /// Where they do not, the edges cannot cross.
+    /// Whether the upright boxes of two edges come as near as a slack, which is 2^-23 times the sum
+    /// of both edges' extents in x and y. No exactly if in x or in y the high end of one, with the
+    /// slack added, is below the low end of the other, as computed. Where the answer is no, the
+    /// edges do not cross. A NaN or an infinite slack parts nothing.
     ///
     /// # Example
     ///
@@ -97,8 +100,9 @@ unsafe extern "C" {
     #[link_name = "bgz_edge2_culling_intersection"]
     pub safe fn culling_intersection(s0: Vec2, e0: Vec2, s1: Vec2, e1: Vec2) -> bool;
 
-    /// The point of the edge from `s` to `e` that is nearest to (0, 0), with its ratio. An edge
-    /// whose computed squared length is 0 gives its midpoint, with ratio 0.5.
+    /// The point of the edge from `s` to `e` that is nearest to (0, 0), with its ratio, but for
+    /// rounding. An edge whose computed squared length is 0 gives its midpoint, with ratio 0.5.
+    /// Where that squared length overflows, the point may be a NaN or another than the nearest.
     ///
     /// # Example
     ///
@@ -112,8 +116,11 @@ unsafe extern "C" {
     #[link_name = "bgz_edge2_nearest_origin"]
     pub safe fn nearest_origin(s: Vec2, e: Vec2) -> OnEdge;
 
-    /// The point of the edge from `s` to `e` that is nearest to `p`, with its ratio. An edge whose
-    /// computed squared length is 0 gives its midpoint, with ratio 0.5.
+    /// The point of the edge from `s` to `e` that is nearest to `p`, with its ratio, but for
+    /// rounding: it is what [`edge2::nearest_origin`](crate::edge2::nearest_origin) gives for the
+    /// edge from `s` - `p` to `e` - `p`, with `p` added. These differences are rounded first, so
+    /// for a `p` that is far from a short edge the point may lie off the edge: (10, 10), (11, 10),
+    /// (1e8, 10) gives (0.5, (8, 10)).
     ///
     /// # Example
     ///
@@ -195,15 +202,19 @@ pub fn intersection_length_against_aabb2(s: Vec2, e: Vec2, b: Aabb2) -> Result<f
 /// The ink that the stroke from `p0` to `p1` leaves in the box `b`: the length of what it draws
 /// there. The stroke's line is clipped against the box, as by
 /// [`aabb::intersections_against_line`](crate::aabb::intersections_against_line) with the origin
-/// `p0` and the direction `p1` - `p0`, and the interval is bounded to 0..1. The ink is the
+/// `p0` and the direction `p1` - `p0`. The interval is bounded to 0..1. The ink is the
 /// [`edge2::length`](crate::edge2::length) between the positions that
 /// [`edge2::position_from_ratio`](crate::edge2::position_from_ratio) gives for the interval's two
-/// ends, or 0 if the line misses the box or the bounding leaves nothing. It is finite and not below
-/// 0. With both ends in the box, edges included, it is the [`edge2::length`](crate::edge2::length)
-/// of the stroke, and nothing further is rounded; with both ends beyond one edge of the box it is
-/// 0, and so with equal ends, which are not refused. Otherwise the two positions are rounded, by a
-/// few units in the last place of the stroke's largest coordinate, so that the ink may be above the
-/// stroke's length.
+/// ends. It is 0 if the line misses the box or the bounding leaves nothing. It is finite and not
+/// below 0. With both ends in the box, edges included, it is exactly the stroke's
+/// [`edge2::length`](crate::edge2::length), with no further rounding. With both ends beyond one
+/// edge of the box it is 0. Equal ends are not refused: their ink is 0. Otherwise the two positions
+/// are rounded, so that the ink may differ from the exact length, and may be above the stroke's
+/// own. No bound on this is proved. The most that a search by running found is 0.0493 from the
+/// exact length, for (-65304.58, -64553.074), (64146.25, 65250.32), (-65536, -31735.12, 65536,
+/// 61723.89), and 1/64 above the stroke's [`edge2::length`](crate::edge2::length), for (-64281.117,
+/// 35206.668), (64216.21, 62848.684), (-64281.113, 0, 65536, 65536). Coordinates half as large
+/// halve both.
 ///
 /// # Errors
 ///
@@ -228,13 +239,19 @@ pub fn ink(p0: Vec2, p1: Vec2, b: Aabb2) -> Result<f32, RefusalAt> {
     raw::ink(p0, p1, b).result_at(&[Refusal::COORDINATE, Refusal::NOT_FINITE])
 }
 
-/// The pixels under the stroke from `p0` to `p1`, in an image of `width` by `height` pixels; a side
-/// may be 0. A walk starts at `p0`. Each step adds the difference of the ends divided by the larger
-/// absolute difference, signs kept. The walk goes on while x and y lie within the ends' ranges,
-/// widened by 2^-23. Each position in the image enters row * `width` + column. The first position
-/// outside the ranges enters likewise as a closing entry, a negative coordinate as 0. There is
-/// always one, last: it is no pixel of the stroke, though it may name one of the image. The
-/// stroke's pixels are the entries before it.
+/// The pixels along the stroke from `p0` to `p1`, in an image of `width` by `height` pixels; a side
+/// may be 0. They are the pixels of positions a step apart: one that the stroke only crosses
+/// between two positions is left out. A walk starts at `p0`. Each step adds the difference of the
+/// ends divided by the larger absolute difference, signs kept. The walk goes on while x and y lie
+/// within the ends' ranges, widened by 2^-23 and rounded. Each position in the image enters row *
+/// `width` + column. The first position outside the ranges enters likewise, as a closing entry:
+/// there is always one, and it is the last. A negative coordinate counts as 0 there. The closing
+/// entry may name a pixel of the image that the stroke does not come to. It may also be the pixel
+/// of `p1`: (0.5, 0.5), (3.5, 2.5) in 8 by 8 gives 0, 9, 10 and the closing entry 19, in which `p1`
+/// lies. For each step is rounded, and the errors add up: the walk can leave the ranges long before
+/// `p1`, or end in another row or column than `p1`. From (0.5, 16000) to (15000.5, 16009) in 16384
+/// by 16384 it ends in column 9216, and from (0.5, 16000) to (15000.5, 16006) it stays in row
+/// 16000.
 ///
 /// Writes the entries to the start of `list` and answers how many: never more than
 /// [`edge2::pixels_bound`](crate::edge2::pixels_bound) answers, so a list of that length is never
@@ -276,10 +293,15 @@ pub fn overlapping_pixels_dda(
     a.result_at(&[Refusal::COORDINATE, Refusal::NOT_FINITE])
 }
 
-/// The pixels under the stroke from `p0` to `p1`, in an image of `width` by `height` pixels; a side
+/// The pixels along the stroke from `p0` to `p1`, in an image of `width` by `height` pixels; a side
 /// may be 0. They are the entries of
-/// [`edge2::overlapping_pixels_dda`](crate::edge2::overlapping_pixels_dda) without the closing one,
-/// so that each is a pixel of the image, below `width` * `height`.
+/// [`edge2::overlapping_pixels_dda`](crate::edge2::overlapping_pixels_dda) without the closing one.
+/// Each is row * `width` + column of a position of the walk that lies in the image: the row is
+/// below `height` and the column below `width`. The last pixels before `p1`, that of `p1` among
+/// them, may be missing, or lie in another row or column, since the walk's rounding adds up: (0.5,
+/// 0.5), (3.5, 2.5) in 8 by 8 gives 0, 9, 10, and not 19, in which `p1` lies. How far that goes for
+/// a long stroke stands with
+/// [`edge2::overlapping_pixels_dda`](crate::edge2::overlapping_pixels_dda).
 ///
 /// Writes the entries to the start of `list` and answers how many: always fewer than
 /// [`edge2::pixels_bound`](crate::edge2::pixels_bound) answers, so a list that is shorter than that
@@ -321,11 +343,11 @@ pub fn pixels_inside(
 }
 
 /// How many entries the stroke from `p0` to `p1` makes at most in an image of `width` by `height`
-/// pixels, the closing one among them: 2 * D + 2, or one more than the longer of `width` and
-/// `height` if that is less. D is the larger of the differences between the ends in x and in y,
-/// exact and not as floats round it, then rounded up to a whole number. A list of this length is
-/// never too short for [`edge2::overlapping_pixels_dda`](crate::edge2::overlapping_pixels_dda), and
-/// one that is shorter by one never for [`edge2::pixels_inside`](crate::edge2::pixels_inside).
+/// pixels, the closing one among them. It is 2 * D + 2, or one more than the longer of `width` and
+/// `height` if that is less. D is the larger of the exact differences between the ends in x and in
+/// y, not as floats round them, then rounded up to a whole number. A list of this length is never
+/// too short for [`edge2::overlapping_pixels_dda`](crate::edge2::overlapping_pixels_dda). One that
+/// is shorter by one is never too short for [`edge2::pixels_inside`](crate::edge2::pixels_inside).
 ///
 /// # Errors
 ///

@@ -17,7 +17,8 @@ unsafe extern "C" {
     #[link_name = "bgz_f32_abs"]
     pub safe fn abs(x: f32) -> f32;
 
-    /// The smaller of two numbers; if one is a NaN, the other.
+    /// The smaller of two numbers. Of two zeros it is the first, and of a NaN and a number the
+    /// number.
     ///
     /// # Example
     ///
@@ -29,7 +30,8 @@ unsafe extern "C" {
     #[link_name = "bgz_f32_min"]
     pub safe fn min(a: f32, b: f32) -> f32;
 
-    /// The larger of two numbers; if one is a NaN, the other.
+    /// The larger of two numbers. Of two zeros it is the first, and of a NaN and a number the
+    /// number.
     ///
     /// # Example
     ///

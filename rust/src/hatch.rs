@@ -136,12 +136,11 @@ pub fn record_count(floats: &[f32]) -> usize {
     }
 }
 
-/// A hatch list of version 1 from the bits of its floats, eight a record. The length of `patterns`
-/// / 8, rounded down, is the number n of records: an incomplete last one does not count. To save
-/// what [`hatch::read_patterns`](crate::hatch::read_patterns) read, hand over the 8 * count
-/// patterns that it wrote: they are written as the bytes that they were read from, those of a NaN
-/// included. Whatever is written, [`hatch::read_patterns`](crate::hatch::read_patterns) reads as
-/// the same records.
+/// A hatch list of version 1 from the bits of its floats, eight a record. The number n of records
+/// is the length of `patterns` / 8, rounded down: an incomplete last record is not written. What is
+/// written, [`hatch::read_patterns`](crate::hatch::read_patterns) reads as the same records. To
+/// save what [`hatch::read_patterns`](crate::hatch::read_patterns) read, hand over the 8 * count
+/// patterns that it wrote: the bytes are those that it read, also where a float is a NaN.
 ///
 /// Writes 7 + 32 * n bytes to the start of `out` and answers how many that is;
 /// [`HATCH_BYTES_MAX`](crate::limits::HATCH_BYTES_MAX) are room for any.
@@ -169,9 +168,11 @@ pub fn write_patterns(patterns: &[u32], out: &mut [u8]) -> Result<usize, Refusal
 }
 
 /// [`hatch::write_patterns`](crate::hatch::write_patterns) from the floats themselves, n records of
-/// eight. A number is written with its own bits, the sign of a zero too, and a NaN with the bits
-/// 7fc00000, whatever its own were: to save what was read, patterns serve, which keep them.
-/// [`hatch::read_floats`](crate::hatch::read_floats) reads the same floats again.
+/// eight. A NaN is written with the bits 7fc00000, whatever its own are, and every other float with
+/// its own bits. What is written, [`hatch::read_floats`](crate::hatch::read_floats) reads as the
+/// same records. The floats that it read are written as the bytes that it read if the file's NaNs
+/// have the bits 7fc00000; [`hatch::read_patterns`](crate::hatch::read_patterns) and
+/// [`hatch::write_patterns`](crate::hatch::write_patterns) keep the bits of every NaN.
 ///
 /// Writes 7 + 32 * n bytes to the start of `out` and answers how many that is.
 ///
@@ -197,14 +198,19 @@ pub fn write_floats(floats: &[f32], out: &mut [u8]) -> Result<usize, Refusal> {
     a.result()
 }
 
-/// The report on a hatch list, as text: each record clipped as a line. "HSL", version and count;
-/// then for each record a line with its place from 1 and "miss", or "hit" with tmin and tmax as
-/// eight hexadecimal digits of their bits, any zero as 00000000. Fields stand one space apart, and
-/// a line ends in a line feed. For bytes that are no hatch list the text is "refused", the number
-/// and the byte that [`hatch::read_floats`](crate::hatch::read_floats) gives.
+/// The report on a hatch list, as text in ASCII. The first line is "HSL", version and count. Then
+/// each record has a line of its own: its place from 1, and what
+/// [`aabb::intersections_against_line`](crate::aabb::intersections_against_line) answers for its
+/// box, origin and direction: "miss", or "hit" with tmin and tmax, each as the eight lower-case
+/// hexadecimal digits of its bits, any zero as 00000000. Fields stand one space apart, and a line
+/// ends in a line feed. For bytes that are no hatch list the only line is "refused", the number of
+/// the refusal of [`hatch::read_floats`](crate::hatch::read_floats), and its byte. Bytes beyond the
+/// first [`HATCH_BYTES_MAX`](crate::limits::HATCH_BYTES_MAX) + 1 change nothing: they need not be
+/// handed over.
 ///
-/// Writes as much of the text as `out` has room for to its start, with no NUL after it, and answers
-/// the bytes of the whole text.
+/// Writes the text to the start of `out`, with no NUL after it, and answers its length in bytes. If
+/// `out` is shorter, it is filled with the first bytes of the text, and the answer is still the
+/// whole length; [`HATCH_REPORT_MAX`](crate::limits::HATCH_REPORT_MAX) are room for any.
 ///
 /// # Example
 ///

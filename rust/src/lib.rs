@@ -1,9 +1,10 @@
 //! Geometry for patent drawings in f32, proved: the library's C ABI as safe Rust, a file for each module.
 //!
-//! Every function takes any bits and ends. What may be missing is an [`Option`], and what may be refused a [`Result`] with a [`Refusal`], or
-//! with a [`RefusalAt`] where a refusal may tell a place.
+//! Every function takes any bits in every number, NaN and infinities among them, and ends. What may be missing is an [`Option`]. What may be
+//! refused is a [`Result`] with a [`Refusal`], or with a [`RefusalAt`] where a refusal may tell a place.
+//!
 //! Under Errors the conditions stand in the order in which they are tested; the first that holds is the refusal. A lent list is written
-//! from its start, its other entries stay as they are, and a refused call changes nothing. Functions keep no state; threads may call at the
+//! from its start, and its other entries stay as they are. A refused call changes nothing. Functions keep no state, so threads may call at the
 //! same time.
 //!
 //! ```
@@ -34,17 +35,17 @@
 //! # Floats
 //!
 //! Each operation is rounded to the nearest float, ties to even, as IEEE 754 has it. The caller must leave the rounding mode as it is at the
-//! start of a program, and subnormal numbers on. Else answers may be others; that calls still end and keep to their lists is tested, and not
-//! proved. Exceptions must not trap, as they do not at the start of a program; calls may raise their flags.
+//! start of a program, and subnormal numbers on. If it does not, answers may be others; that calls still end and keep to their lists is tested,
+//! and not proved. Exceptions must not trap, as they do not at the start of a program; calls may raise their flags.
 //!
-//! A comparison with a NaN is false, and an answer that is a NaN may have any NaN's bits. +0 and -0 are equal in every comparison. A minimum
-//! or maximum gives the first of two equal zeros, and drops a NaN if the other is a number.
+//! A comparison with a NaN is false, but for "not equal". An answer that is a NaN may have any NaN's bits. +0 and -0 are equal in every
+//! comparison. A minimum or maximum gives the first of two equal zeros, and the other operand where one is a NaN.
 //!
 //! # Axes
 //!
 //! x grows with the column and y with the row. A line rises where y grows with x, as in direction (1, 1), and falls where it shrinks, as in
-//! direction (1, -1). On a screen with row 0 on top a line that rises so goes down to the right. In space z is the third axis; where it points is
-//! the caller's.
+//! direction (1, -1). On a screen with row 0 on top a line that rises goes down to the right. In space z is the third axis; the caller decides
+//! where it points.
 //!
 //! # Building
 //!
@@ -55,7 +56,7 @@
 //! BAGNOSZYK_STATICLIB=PREFIX/lib cargo build
 //! ```
 //!
-//! The wrappers are marked to be inlined: a struct handed on by a call of its own costs more than a clip.
+//! The wrappers are marked to be inlined, so that a program calls the library's functions and nothing between.
 
 #![warn(missing_docs)]
 

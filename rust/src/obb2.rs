@@ -19,8 +19,10 @@ unsafe extern "C" {
     #[link_name = "bgz_obb2_corner_points"]
     pub safe fn corner_points(o: Obb2) -> Corners;
 
-    /// Whether `p` is in `o`, edges included, by its dot products with u and v. A product that is a
-    /// NaN counts as inside, and a half edge of length 0 does not bound its direction.
+    /// Whether `p` is in `o`, edges included, by its dot products with u and v, as computed. Where
+    /// u and v are at a right angle and no product overflows or underflows, that is the box, but
+    /// for rounding. Else it is another region. A product that is a NaN counts as inside, and a
+    /// half edge of length 0 does not bound its direction.
     ///
     /// # Example
     ///
@@ -36,9 +38,11 @@ unsafe extern "C" {
 
     /// Whether two turned boxes meet: no exactly if on some axis across a half edge of `a` or of
     /// `b` the computed projections of the corners of one lie strictly below those of the other.
-    /// Ranges whose computed ends are equal overlap; rounding parts some boxes that touch. The
-    /// order of `a` and `b` does not matter. A half edge of length 0 gives no axis, so boxes that
-    /// only that axis would part count as meeting.
+    /// Ranges whose computed ends are equal overlap. Rounding parts some boxes that touch, and
+    /// joins some that lie close. The order of `a` and `b` does not matter. Across a half edge of
+    /// length 0 every finite corner projects to 0, so boxes that only that axis would part count as
+    /// meeting. Projections that are NaN are left out. Where a box has no others on an axis, that
+    /// axis parts it from the other box, unless that one reaches from -infinity to +infinity there.
     ///
     /// # Example
     ///
@@ -54,9 +58,11 @@ unsafe extern "C" {
 
     /// Whether a turned and an upright box meet: no exactly if on some axis (x, y, and those across
     /// u and v) the computed projections of the corners of one lie strictly below those of the
-    /// other. Ranges whose computed ends are equal overlap; rounding parts some boxes that touch. A
-    /// half edge of length 0 gives no axis, so boxes that only that axis would part count as
-    /// meeting.
+    /// other. Ranges whose computed ends are equal overlap. Rounding parts some boxes that touch,
+    /// and joins some that lie close. Across a half edge of length 0 every finite corner projects
+    /// to 0, so boxes that only that axis would part count as meeting. Projections that are NaN are
+    /// left out. Where a box has no others on an axis, that axis parts it from the other box,
+    /// unless that one reaches from -infinity to +infinity there.
     ///
     /// # Example
     ///
@@ -82,7 +88,8 @@ mod raw {
 }
 
 /// `p` itself if [`obb2::is_include_point2`](crate::obb2::is_include_point2) says so; else the
-/// nearest of the four edges' nearest points, the first of equals.
+/// nearest of the points that [`edge2::nearest_to_point`](crate::edge2::nearest_to_point) gives for
+/// the four edges, the first of equals.
 ///
 /// # Errors
 ///

@@ -19,9 +19,11 @@ unsafe extern "C" {
     #[link_name = "bgz_obb3_corner_points"]
     pub safe fn corner_points(o: Obb3) -> Corners3;
 
-    /// Whether `p` is in `o`, faces included, by its dot products with u, v and w, each edge
-    /// stretched by 1 + `eps`. A product that is a NaN counts as inside, and a half edge of length
-    /// 0 does not bound its direction.
+    /// Whether `p` is in `o`, faces included, by its dot products with u, v and w, as computed,
+    /// each edge stretched by 1 + `eps`. With an `eps` of 0, where u, v and w are at right angles
+    /// and no product overflows or underflows, that is the box, but for rounding. Else it is
+    /// another region. A product that is a NaN counts as inside, and a half edge of length 0 does
+    /// not bound its direction.
     ///
     /// # Example
     ///
@@ -50,7 +52,7 @@ mod raw {
 /// lie strictly below those of the other. There are fifteen: u, v and w of `a`, each times 1 / its
 /// norm, those of `b`, and the cross product of each of these of `a` with each of `b`. The first
 /// axis that parts the boxes, or on which a projection is a NaN, decides. Ranges whose computed
-/// ends are equal overlap; rounding parts some boxes that touch.
+/// ends are equal overlap. Rounding parts some boxes that touch, and joins some that lie close.
 ///
 /// # Errors
 ///

@@ -13,6 +13,8 @@ import pathlib
 import re
 import sys
 
+import names
+
 ROOT = pathlib.Path(__file__).resolve().parent.parent.parent
 SCALARS = ("bool", "u8", "u32", "i32", "usize", "f32")
 COMMENT = r"((?:^ *//[^\n]*\n)*)"
@@ -81,6 +83,7 @@ class Function:
     result: str
     enum: str  # what the result stands for, by the contract: a name of `Model.enums`, or nothing
     routine: str  # what it calls, as crate::routine
+    contract: tuple  # its clauses
 
     @property
     def parts(self):
@@ -168,15 +171,16 @@ def named(text):
 
 def functions_of(source):
     pattern = COMMENT + r'#\[unsafe\(no_mangle\)\]\n' + ATTRIBUTES + r'pub extern "C" fn (\w+)\(([^)]*)\) -> (\w+)\n(.*?)^\{(.*?)^\}'
-    for comment, symbol, parameters, result, contract, body in re.findall(pattern, source, re.S | re.M):
+    for comment, symbol, parameters, result, contract, body in re.findall(pattern, source.text, re.S | re.M):
         answer = re.search(r"result ≡ \(?(\w*answer(?:_at)?_of|status_of)\b", contract)
         # The innermost call: what is around it only turns an answer into a struct.
         routine = re.findall(r"\w+::\w+(?=\()", body)[-1]
-        yield Function(symbol, comment_of(comment), named(parameters), result, answer[1] if answer else "", routine)
+        clauses = tuple(c for c in source.clauses if c.place == symbol)
+        yield Function(symbol, comment_of(comment), named(parameters), result, answer[1] if answer else "", routine, clauses)
 
 
 def structs_of(source):
-    for comment, name, fields in re.findall(COMMENT + r"#\[repr\(C\)\]\n" + ATTRIBUTES + r"pub struct (\w+) \{\n(.*?)^\}", source, re.S | re.M):
+    for comment, name, fields in re.findall(COMMENT + r"#\[repr\(C\)\]\n" + ATTRIBUTES + r"pub struct (\w+) \{\n(.*?)^\}", source.text, re.S | re.M):
         yield Struct(name, comment_of(comment), named(fields))
 
 
@@ -191,32 +195,28 @@ def refusals_of(source):
         yield Refusal(re.sub(r"(?<=[a-z])(?=[A-Z])", "_", name).upper(), int(number), f"{text[0].upper()}{text[1:]}.")
 
 
-def sources():
-    """The text of each crate that crates.txt lists, its files joined."""
-    for crate in re.findall(r"^(\w+)(?: staticlib)?:", (ROOT / "crates.txt").read_text(), re.M):
-        folder = ROOT / "crates" / crate / "src"
-        # The root first: it has the comment on the crate.
-        paths = sorted(folder.glob("**/*.rt"), key=lambda p: (p.parent != folder or p.stem not in ("lib", "main"), p))
-        yield crate, "\n".join(p.read_text() for p in paths)
-
-
-def read():
+def read(library=None):
+    library = library or names.Library(ROOT)
     functions, structs, enums, modules = [], [], {}, {}
-    for crate, source in sources():
-        own, declared = list(functions_of(source)), list(structs_of(source))
-        if len(own) != source.count('extern "C" fn') or len(declared) != source.count("#[repr(C)]"):
+    for crate in library.crates:
+        own, declared = [], []
+        for source in library.sources(crate):
+            own += functions_of(source)
+            declared += structs_of(source)
+        text = "".join(source.text for source in library.sources(crate))
+        if len(own) != text.count('extern "C" fn') or len(declared) != text.count("#[repr(C)]"):
             sys.exit(f"boundary: a function or a struct of {crate} has a form that is not read")
         for function in own:
             if not function.comment.text or not f"{crate}_".startswith(f"c_{function.module}_"):
                 sys.exit(f"boundary: {function.symbol} has no comment, or stands in {crate}")
         if own and own[0].module not in modules:
-            modules[own[0].module] = " ".join(comment_of(re.match(r"(?://.*\n)*", source)[0]).text)
+            modules[own[0].module] = " ".join(comment_of(re.match(r"(?://.*\n)*", text)[0]).text)
         functions += own
         structs += declared
     for crate in ("c_answers", "c_hatch"):
-        for path in (ROOT / "crates" / crate / "specs").glob("*.antt"):
-            enums.update(enums_of(path.read_text()))
-    refusals = tuple(refusals_of((ROOT / "crates/types/src/refusal.rt").read_text()))
+        for spec in library.specs(crate):
+            enums.update(enums_of(spec.text))
+    refusals = tuple(refusals_of((library.root / "crates/types/src/refusal.rt").read_text()))
     structs.sort(key=lambda s: s.is_answer)
     model = Model(tuple(functions), {s.name: s for s in structs}, refusals, enums, modules)
     for function in functions:

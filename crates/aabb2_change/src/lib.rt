@@ -81,7 +81,7 @@ pub fn transform_homogeneous(b: Aabb2, m: Mat3) -> Result<Aabb2, Refusal>
     Ok(wider)
 }
 
-// The transform that takes the box into the unit square, both axes scaled alike, the centre to the square's.
+// The transform that scales both axes by 1 / (the longer edge) and takes the box's centre to that of the unit square.
 pub fn to_transformation_world2unit_ortho_preserve_asp(b: Aabb2) -> Mat3
     ensures { result ≡ to_transformation_world2unit_ortho_preserve_asp_of b }
 {

@@ -12,7 +12,7 @@ use Rattle.float.specs.Rounded.{◌⊕◌, ◌⊖◌, ◌⊗◌, +0, half}
 use Rattle.float.specs.Values.{abs_of, min_of, max_of, clamp_of}
 use Rattle.vec2.specs.Values as vec2
 
--- how far a coordinate lies past the nearer end of a range; negative inside
+-- how far a coordinate lies past the nearer end of an ordered range; negative inside
 abbrev pub past_of : Range → Float → Float
 past_of r at = abs_of (at ⊖ middle_of r) ⊖ length_of r ⊗ half
 

@@ -15,7 +15,7 @@ pub fn is_include_point2(b: Aabb2, p: Vec2) -> bool
     aabb::is_include_point(b, p)
 }
 
-// How far a coordinate lies past the nearer end of a range; negative inside.
+// How far a coordinate lies past the nearer end of an ordered range; negative inside.
 fn past(range: Range, at: f32) -> f32
     ensures { result ≡ past_of range at }
 {
@@ -42,7 +42,7 @@ pub fn nearest_point2(b: Aabb2, p: Vec2) -> Result<Vec2, Refusal>
     Err(Refusal::Order)
 }
 
-// The signed distance to the box's edge: negative inside.
+// The signed distance to the edge of an ordered box: negative inside.
 pub fn sdf(b: Aabb2, p: Vec2) -> f32
     ensures { result ≡ sdf_of b p }
 {

@@ -41,7 +41,7 @@ pub fn from_two_aabbs(a: Aabb2, b: Aabb2) -> Aabb2
     }
 }
 
-// The box around two points, radius away on each side. Any radius is taken.
+// The box around two points, radius away on each side. Any radius is taken: one below 0 can reverse the box.
 pub fn from_two_points(p: Vec2, q: Vec2, radius: f32) -> Aabb2
     ensures { result ≡ from_two_points_of p q radius }
 {

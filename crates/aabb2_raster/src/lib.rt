@@ -13,7 +13,7 @@ fn first_pixel(low: f32) -> usize
     rounding::to_usize(float::max(rounding::ceil(low - 0.5), 0.0))
 }
 
-// One past the last pixel below side whose centre is below high.
+// One past the last of `side` pixels whose centre is below high, and 0 where there is none.
 fn end_pixel(high: f32, side: usize) -> usize
     requires { side ≤ SIDE_MAX }
     ensures { result ≡ end_pixel_of high side }

@@ -6,6 +6,7 @@ ghost use Rattle.aabb2_view.specs.Flat.{count_of, from_aabbs_of};
 
 use types::{Aabb2, Refusal};
 
+// A lent list, seen as boxes. aabb3_list has the same for six floats, with no view: what both share is the law of crate flat.
 #[derive(Clone, Copy, Debug, PartialEq)]
 pub struct Boxes<'a> {
     pub all: &'a [f32],
@@ -16,37 +17,36 @@ impl<'a> Boxes<'a> {
     pub fn count(self) -> usize
         ensures { result ≡ count_of self.entry.all.now }
     {
-        count_aabbs(self.all)
+        self.all.len() / 4
     }
 
     // The box at an index. An index that is not below the count is refused.
+    #[tactic(auto, using(flat::proofs::Chunks::chunk_entry), unfolding(crate::specs::Flat::from_aabbs_of))]
     pub fn box_at(self, index: usize) -> Result<Aabb2, Refusal>
         ensures { result ≡ from_aabbs_of self.entry.all.now index }
     {
-        from_aabbs(self.all, index)
+        let (boxes, _) = self.all.as_chunks::<4>();
+        let &[min_x, min_y, max_x, max_y] = boxes.get(index).ok_or(Refusal::Index)?;
+        Ok(Aabb2 {
+            min_x,
+            min_y,
+            max_x,
+            max_y,
+        })
     }
 }
 
-// The same two for callers that have the list alone: C has no view. aabb3_list has them for six floats: each is a division, or a pattern of the
-// struct's names. A generic one between would be no plainer; what both share is the law of crate flat.
+// The same two for callers that have the list alone: C has no view.
 pub fn count_aabbs(all: &[f32]) -> usize
     ensures { result ≡ count_of all.now }
 {
-    all.len() / 4
+    Boxes { all }.count()
 }
 
-#[tactic(auto, using(flat::proofs::Chunks::chunk_entry), unfolding(crate::specs::Flat::from_aabbs_of))]
 pub fn from_aabbs(all: &[f32], index: usize) -> Result<Aabb2, Refusal>
     ensures { result ≡ from_aabbs_of all.now index }
 {
-    let (boxes, _) = all.as_chunks::<4>();
-    let &[min_x, min_y, max_x, max_y] = boxes.get(index).ok_or(Refusal::Index)?;
-    Ok(Aabb2 {
-        min_x,
-        min_y,
-        max_x,
-        max_y,
-    })
+    Boxes { all }.box_at(index)
 }
 
 // The list's first box.

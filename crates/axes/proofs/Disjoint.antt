@@ -9,8 +9,8 @@ use lib.Ieee.{Float, lt, is_nan}
 use borrow.Author.Tests.{not-false}
 use Rattle.std.specs.List.{list_any}
 use Rattle.axes.specs.Axes.{range_of, apart_of, projections, separates, meets}
-use Rattle.axes.specs.Disjoint.{+∞, -∞, NumberOf, NumberOfOr, Below, NumbersDecide, SeparatesIfDisjoint, SeparatingAxis}
-use Rattle.axes.proofs.Ends.{range_ends}
+use Rattle.axes.specs.Disjoint.{+∞, -∞, NumberOf, NumberOfOr, Below, NumbersDecide, SeparatesIfDisjoint, SeparatingAxis, FoldedRanges}
+use Rattle.axes.proofs.Ends.{range_ends, one_range}
 use Rattle.float.proofs.Order.{lt_itself, lt_not, none_lower, none_higher}
 use Rattle.float.proofs.Tests.{either, or_true}
 
@@ -83,3 +83,6 @@ module _ {P : Type 0} (dot : P → P → Float) where
     λ h. let r = some_is (separates dot ps qs) axes (not-false _ h) in (r.0, r.1, (separates_if_disjoint ps qs r.0).0 r.2),
     λ r. ap not (is_some (separates dot ps qs) axes r.0 r.1 ((separates_if_disjoint ps qs r.0).1 r.2)),
   )
+
+  pub folded_ranges : FoldedRanges dot
+  folded_ranges = record { ends = range_ends; one = one_range; numbers = numbers_decide; separates = separates_if_disjoint }

@@ -1,4 +1,4 @@
--- A list of known length, element by element. No proof cites it today: it stands because docs/REQUESTS.md names it.
+-- A list of known length, element by element. No proof cites it.
 use mathlib.Core.Path.{◌≡◌, refl, ap}
 use mathlib.Core.List.{List, [], ◌∷◌}
 use Prim.Native.Nat.{ℕ, zero, suc}

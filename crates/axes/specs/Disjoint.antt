@@ -1,7 +1,7 @@
 -- The separating axes of Gottschalk, Lin and Manocha, said with no fold. Two boxes are disjoint if on some axis the intervals of their
--- projections are; in the plane the axes are those at a right angle to the boxes' edges, in space those along the edges and along the cross
--- products of an edge of one with an edge of the other. The projections are rounded, so a box's
--- interval is that of the projections that are numbers. Definitions only.
+-- projections are. In the plane the axes are those at a right angle to the boxes' edges, in space those along the edges and along the cross
+-- products of an edge of one with an edge of the other. The projections are rounded and may be NaN: a box's interval is that of the projections
+-- that are numbers. Definitions only.
 use Rattle.std.specs.Prelude.{◌≡◌, ◌⊎◌, ◌↔◌, true, false, Float}
 use mathlib.Core.List.{List, Memᴰ}
 use Rattle.std.specs.Float.{inf}
@@ -35,14 +35,15 @@ pub record Greatest (xs : List Float) (m : Float) : Type 0 where
   pub one_of : NumberOfOr xs -∞ m
   pub none_above : (x : Float) → NumberOfOr xs -∞ x → lt m x ≡ false
 
--- of two numbers: they are the same, but for the sign of a zero
+-- of two numbers: they are equal, zeros of either sign too
 abbrev pub Level : Float → Float → Type 0
 Level x y = (lt x y ≡ false) × (lt y x ≡ false)
 
--- a folded range has these ends and no others; proved in proofs/Ends.antt, and the statements below in proofs/Disjoint.antt
+-- a folded range has these ends
 abbrev pub RangeEnds : Type 0
 RangeEnds = (xs : List Float) → Least xs (range_of xs).low × Greatest xs (range_of xs).high
 
+-- and no others
 abbrev pub OneRange : Type 0
 OneRange = (xs : List Float) (m : Float) → (Least xs m → Level m (range_of xs).low) × (Greatest xs m → Level m (range_of xs).high)
 
@@ -71,3 +72,10 @@ module _ {P : Type 0} (dot : P → P → Float) where
   -- one of the axes on which the corners' intervals are disjoint
   abbrev pub SeparatingAxis : List P → List P → List P → Type 0
   SeparatingAxis ps qs axes = (axis : P) × Memᴰ axis axes × Disjoint (projections dot ps axis) (projections dot qs axis)
+
+-- what the folded ranges of Axes.antt are, in these words
+pub record FoldedRanges {P : Type 0} (dot : P → P → Float) : Type 0 where
+  pub ends : RangeEnds
+  pub one : OneRange
+  pub numbers : NumbersDecide
+  pub separates : SeparatesIfDisjoint dot

@@ -10,7 +10,7 @@ pub(crate) const EMPTY: Range = Range {
     high: f32::NEG_INFINITY,
 };
 
-// The range widened to hold x. The ends are numbers, so that one test each leaves a NaN out.
+// The range widened to hold x. The ends are never NaN, so one comparison per end is enough to ignore a NaN x.
 pub fn widened(r: Range, x: f32) -> Range
     ensures { result ≡ widened_of r x }
 {
@@ -20,7 +20,7 @@ pub fn widened(r: Range, x: f32) -> Range
     }
 }
 
-// Whether one range's maximum is strictly below the other's minimum. Both are tested, with no jump between.
+// Whether one range's maximum is strictly below the other's minimum. Both comparisons are made, with no jump between them.
 #[tactic(auto, unfolding(crate::specs::Axes::apart_of))]
 pub fn apart(a: Range, b: Range) -> bool
     ensures { result ≡ apart_of a b }

@@ -5,9 +5,9 @@ ghost use Rattle.axes.specs.Axes.{separates, first_of, span_of, verdict_of};
 use crate::range::{EMPTY, apart, widened};
 use types::{Range, Refusal, Vector};
 
-// The first axis that separates the corners ps from the corners qs ends both loops with its place, by a labelled break: that form is asked for,
-// so that the last corner is told by its number. `zip` and `enumerate` would give the number and both corners as a pair in a pair, and be no plainer.
-// Bodies of no corners are separated by none.
+// The place of the first axis that separates the corners ps from the corners qs. A labelled break leaves both loops with it, at the last corner,
+// which is known by its number. `zip` and `enumerate` would give the number and both corners as a pair in a pair, and be no plainer.
+// Bodies without corners are separated by no axis.
 pub fn first_separating<V: Vector, const N: usize>(
     ps: &[V; N],
     qs: &[V; N],
@@ -32,8 +32,8 @@ pub fn first_separating<V: Vector, const N: usize>(
     }
 }
 
-// The range of the corners' projections on an axis, refused where one is NaN. All are tested, with no jump between. Without `inline(always)` the
-// overlap of two solids takes half as long again (1,235 ns for 847 where most overlap).
+// The range of the corners' projections on an axis, refused where one is NaN. All are tested, with no jump between them. Without `inline(always)` the
+// overlap of two solids takes half as long again.
 #[inline(always)]
 #[tactic(auto, unfolding(crate::specs::Axes::span_of))]
 fn span<V: Vector, const N: usize>(ps: &[V; N], axis: V) -> Result<Range, Refusal>
@@ -52,8 +52,8 @@ fn span<V: Vector, const N: usize>(ps: &[V; N], axis: V) -> Result<Range, Refusa
     Ok(span)
 }
 
-// The first axis with a NaN projection, or that separates the corners ps from the corners qs, decides: refused, or no. Where none does, the
-// answer is yes.
+// The first axis that has a NaN projection or separates the corners ps from the corners qs decides: a NaN is refused, and else the answer is no.
+// Where there is none, the answer is yes.
 #[tactic(auto, using(crate::proofs::Decided::spans_apart, crate::proofs::Decided::spans_meet))]
 pub fn verdict<V: Vector, const N: usize>(
     ps: &[V; N],

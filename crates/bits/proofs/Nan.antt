@@ -1,4 +1,4 @@
--- Which patterns are a NaN. docs/PORT.md names these two laws. No proof cites them today; they stand, since a law that a page names stays.
+-- Which patterns are a NaN's. No proof cites these two laws. They stand because docs/PORT.md names them.
 use mathlib.Core.Path.{◌≡◌}
 use mathlib.Core.Bool.{false, not}
 use Prim.Native.Nat.{ℕ, ◌/◌, ◌%◌, ◌≤◌, ◌<◌}

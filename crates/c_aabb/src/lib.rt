@@ -5,7 +5,7 @@ ghost use Rattle.std.specs.Prelude.{◌≡◌, length};
 ghost use Rattle.lists.specs.Lent.{leaves};
 ghost use Rattle.c_answers.specs.Answers.{interval_answer_of, count_answer_of};
 ghost use Rattle.c_answers.specs.Told.{Tells};
-ghost use Rattle.slabs.specs.Promise.{IsLineAnswer, IsRayAnswer};
+ghost use Rattle.slabs.specs.Promise.{IsLineAnswer, IsRayAnswer, AnswerLaws};
 ghost use Rattle.aabb.specs.Clip.{slabs, intersections_against_line_of, intersections_against_ray_of};
 ghost use Rattle.aabb.specs.Inside.{is_include_point_of, center_of};
 ghost use Rattle.aabb_lines.specs.Results.{results_of};
@@ -14,14 +14,16 @@ ghost use Rattle.aabb_lines.specs.Answer.{intersections_against_lines_of};
 use c_answers::{CountAnswer, IntervalAnswer};
 use types::{Aabb2, Vec2};
 
-// The stretch of the line `origin` + t * `direction` in the box `b`: tmin <= tmax, both finite. None if the line misses `b`; touching
-// an edge or a corner is a hit. Where a component of `direction` is a zero, that dimension only tests that `origin` is not outside. t
-// keeps its sign: a line may be in the box only at negative t. Where nothing bounds t it is held to the finite numbers, -3.4028235e38
-// to 3.4028235e38. An edge whose t is a NaN drops out, so that t is that of the opposite edge; where both drop out, as with a NaN in
-// `origin` or `direction`, that dimension bounds nothing. A box reversed in a dimension is taken as ordered there, unless that
-// component of `direction` is a zero.
+// The stretch of the line `origin` + t * `direction` in the box `b`, edges included: from tmin to tmax, tmin <= tmax, both finite. None if the line
+// misses `b`. The t at which the line meets an edge is (edge - `origin`) / `direction`, as computed: rounding can turn a touched corner into a miss,
+// and a narrow miss into a hit. t keeps its sign: a line may be in the box only at negative t. It is held to the finite numbers, -3.4028235e38 to
+// 3.4028235e38: where nothing bounds t these two are the answer, and a line that is in the box only beyond them misses it. Where a component of
+// `direction` is a zero, that dimension only tests that `origin` is not outside. An edge whose t is a NaN drops out: that dimension has the opposite
+// edge's t alone. Where both drop out, as with a NaN in `origin` or `direction`, that dimension bounds nothing. A box reversed in a dimension is
+// taken as ordered there, unless that component of `direction` is a zero.
 // Example: (0, 0, 4, 2), (6, -1), (-1, 1) gives (2, 3).
 #[unsafe(no_mangle)]
+#[tactic(auto, using(slabs::proofs::Promise::answer_laws))]
 pub extern "C" fn bgz_aabb_intersections_against_line(
     b: Aabb2,
     origin: Vec2,
@@ -29,6 +31,7 @@ pub extern "C" fn bgz_aabb_intersections_against_line(
 ) -> IntervalAnswer
     ensures answers { result ≡ interval_answer_of (intersections_against_line_of b origin direction) }
     ensures means { Tells interval_answer_of result (IsLineAnswer (slabs b origin direction)) }
+    ensures laws { AnswerLaws }
 {
     IntervalAnswer::from(aabb::intersections_against_line(b, origin, direction))
 }
@@ -66,7 +69,7 @@ pub extern "C" fn bgz_aabb_intersections_against_lines(
     CountAnswer::from(aabb_lines::intersections_against_lines(b, lines, out))
 }
 
-// Whether `p` is in `b`, edges included. A NaN is outside.
+// Whether `p` is in `b`, edges included. With a NaN in `p` or in `b` it is not.
 // Example: (0, 0, 4, 2), (4, 1) gives true.
 #[unsafe(no_mangle)]
 pub extern "C" fn bgz_aabb_is_include_point(b: Aabb2, p: Vec2) -> bool

@@ -13,8 +13,8 @@ use types::{Aabb2, Vec2};
 // Example: (0, 0, 1, 1), (3, 0), 0 leaves (0, 0, 3, 1).
 #[unsafe(no_mangle)]
 pub extern "C" fn bgz_aabb2_add_point_lent(b: &mut Aabb2, p: Vec2, radius: f32) -> u32
-    ensures { (result ≡ status_of (answered_of (add_point_of b.old p radius)))
-        × (b.new ≡ settled_of b.old (add_point_of b.old p radius)) }
+    ensures answers { result ≡ status_of (answered_of (add_point_of b.old p radius)) }
+    ensures leaves { b.new ≡ settled_of b.old (add_point_of b.old p radius) }
 {
     c_answers::status(aabb2_lent::add_point(b, p, radius))
 }

@@ -32,8 +32,8 @@ pub extern "C" fn bgz_aabb3_set_as_cube(p: Vec3, eps: f32) -> Aabb3
     aabb3::set_as_cube(p, eps)
 }
 
-// `b` widened to the low ends `p` - `eps` and the high ends `p` + `eps`, by minimum and maximum. Any `eps` is taken: one below 0 lowers a low end
-// to no less than p + |eps| and raises a high end to no more than p - |eps|, so that the box need not hold `p`.
+// `b` widened to the low ends `p` - `eps` and the high ends `p` + `eps`, by minimum and maximum. A NaN is dropped. Any `eps` is taken: with one below
+// 0 the box need not hold `p`.
 // Example: (0, 0, 0, 1, 1, 1), (3, 0, 0), 0 gives (0, 0, 0, 3, 1, 1).
 #[unsafe(no_mangle)]
 pub extern "C" fn bgz_aabb3_add_point(b: Aabb3, p: Vec3, eps: f32) -> Aabb3
@@ -69,7 +69,7 @@ pub extern "C" fn bgz_aabb3_scale(b: Aabb3, s: f32) -> Aabb3
     aabb3::scale(b, s)
 }
 
-// The product of the edges, x times y times z. Of a box reversed in one dimension or in three it is negative or a zero.
+// The product of the edges, x times y times z. The edge of a reversed dimension is negative.
 // Example: (0, 0, 0, 4, 2, 3) gives 24.
 #[unsafe(no_mangle)]
 pub extern "C" fn bgz_aabb3_volume(b: Aabb3) -> f32
@@ -128,9 +128,9 @@ pub extern "C" fn bgz_aabb3_is_intersect(a: Aabb3, b: Aabb3) -> bool
     aabb3::is_intersect(a, b)
 }
 
-// The squared distance from `p` to the nearest point of `b`, 0 inside: each coordinate is raised to the low end and then lowered to the high
-// one, by minimum and maximum, and the squares of what it moved are summed from 0. In a dimension in which `b` is reversed the nearest is the
-// high end. A NaN in `p` gives a NaN, and so does an infinite coordinate that is not moved.
+// The squared distance from `p` to the nearest point of `b`, 0 inside: each coordinate is raised to the low end and then lowered to the high one, by
+// minimum and maximum, and the squares of what it moved are summed from 0. In a dimension in which `b` is reversed the nearest is the high end. A NaN
+// in `p` gives a NaN, and so does an infinite coordinate that is not moved.
 // Example: (0, 0, 0, 1, 1, 1), (3, 0.5, 0) gives 4.
 #[unsafe(no_mangle)]
 pub extern "C" fn bgz_aabb3_min_sq_dist_to_point3(b: Aabb3, p: Vec3) -> f32

@@ -3,29 +3,33 @@
 
 ghost use Rattle.std.specs.Prelude.{◌≡◌};
 ghost use Rattle.c_answers.specs.Answers.{interval_answer_of};
-ghost use Rattle.slabs.specs.Promise.{IsLineAnswer};
+ghost use Rattle.c_answers.specs.Told.{Tells};
+ghost use Rattle.slabs.specs.Promise.{IsLineAnswer, AnswerLaws};
 ghost use Rattle.aabb_3.specs.Clip.{slabs, intersections_against_line_of};
 ghost use Rattle.aabb_3.specs.Inside.{is_include_point_of, center_of};
 
 use c_answers::IntervalAnswer;
 use types::{Aabb3, Vec3};
 
-// The stretch of the line `origin` + t * `direction` in the box `b`, as `aabb::intersections_against_line` has it, with z after x and y:
-// tmin <= tmax, both finite. None if the line misses `b`; touching a face, an edge or a corner is a hit.
+// The stretch of the line `origin` + t * `direction` in the box `b`, as `aabb::intersections_against_line` has it, with z after x and y: from tmin to
+// tmax, tmin <= tmax, both finite, faces included. None if the line misses `b`. Rounding can turn a touched edge or corner into a miss, and a narrow
+// miss into a hit. A line that is in the box only at t beyond the finite numbers misses it.
 // Example: (0, 0, 0, 4, 2, 1), (6, -1, 0.5), (-1, 1, 0) gives (2, 3).
 #[unsafe(no_mangle)]
+#[tactic(auto, using(slabs::proofs::Promise::answer_laws))]
 pub extern "C" fn bgz_aabb_3_intersections_against_line(
     b: Aabb3,
     origin: Vec3,
     direction: Vec3,
 ) -> IntervalAnswer
     ensures answers { result ≡ interval_answer_of (intersections_against_line_of b origin direction) }
-    ensures means { IsLineAnswer (slabs b origin direction) (intersections_against_line_of b origin direction) }
+    ensures means { Tells interval_answer_of result (IsLineAnswer (slabs b origin direction)) }
+    ensures laws { AnswerLaws }
 {
     IntervalAnswer::from(aabb_3::intersections_against_line(b, origin, direction))
 }
 
-// Whether `p` is in `b`, faces included. A NaN is outside, unlike for `aabb3::is_contain`.
+// Whether `p` is in `b`, faces included. With a NaN in `p` or in `b` it is not, unlike for `aabb3::is_contain`.
 // Example: (0, 0, 0, 4, 2, 1), (4, 1, 1) gives true.
 #[unsafe(no_mangle)]
 pub extern "C" fn bgz_aabb_3_is_include_point(b: Aabb3, p: Vec3) -> bool

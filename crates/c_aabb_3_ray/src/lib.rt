@@ -1,9 +1,10 @@
-// A ray against an upright box of space, apart from c_aabb_3: each has an archive of its own, in which the clip of a line has one caller, and
-// LLVM inlines it there.
+// A ray against an upright box of space. It has a static library of its own, apart from c_aabb_3, so that the clip of a line has one caller in each
+// and LLVM inlines it.
 #![tactic(auto)]
 
 ghost use Rattle.std.specs.Prelude.{◌≡◌};
 ghost use Rattle.c_answers.specs.Answers.{interval_answer_of};
+ghost use Rattle.c_answers.specs.Told.{Tells};
 ghost use Rattle.slabs.specs.Promise.{IsRayAnswer};
 ghost use Rattle.aabb_3.specs.Clip.{slabs, intersections_against_ray_of};
 
@@ -19,7 +20,7 @@ pub extern "C" fn bgz_aabb_3_intersections_against_ray(
     direction: Vec3,
 ) -> IntervalAnswer
     ensures answers { result ≡ interval_answer_of (intersections_against_ray_of b origin direction) }
-    ensures means { IsRayAnswer (slabs b origin direction) (intersections_against_ray_of b origin direction) }
+    ensures means { Tells interval_answer_of result (IsRayAnswer (slabs b origin direction)) }
 {
     IntervalAnswer::from(aabb_3::intersections_against_ray(b, origin, direction))
 }

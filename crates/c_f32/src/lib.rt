@@ -4,6 +4,7 @@
 ghost use Rattle.std.specs.Prelude.{◌≡◌};
 ghost use Rattle.std.specs.Float.Ieee.{to_signed, to_unsigned};
 ghost use Rattle.float.specs.Values.{abs_of, min_of, max_of, clamp_of};
+ghost use Rattle.float.specs.MinMax.{MinimumPicks, MaximumPicks};
 ghost use Rattle.rounding.specs.Values.{floor_of, ceil_of};
 ghost use Rattle.rounding.specs.Integral.{TowardNegative, TowardPositive};
 ghost use Rattle.rounding.specs.Promise.{RoundsToIntegral};
@@ -21,20 +22,24 @@ pub extern "C" fn bgz_f32_abs(x: f32) -> f32
     float::abs(x)
 }
 
-// The smaller of two numbers; if one is a NaN, the other.
+// The smaller of two numbers. Of two zeros it is the first, and of a NaN and a number the number.
 // Example: 2, -1 gives -1.
 #[unsafe(no_mangle)]
+#[tactic(auto, using(float::proofs::MinMax::minimum_picks))]
 pub extern "C" fn bgz_f32_min(a: f32, b: f32) -> f32
-    ensures { result ≡ min_of a b }
+    ensures answers { result ≡ min_of a b }
+    ensures laws { MinimumPicks }
 {
     float::min(a, b)
 }
 
-// The larger of two numbers; if one is a NaN, the other.
+// The larger of two numbers. Of two zeros it is the first, and of a NaN and a number the number.
 // Example: 2, -1 gives 2.
 #[unsafe(no_mangle)]
+#[tactic(auto, using(float::proofs::MinMax::maximum_picks))]
 pub extern "C" fn bgz_f32_max(a: f32, b: f32) -> f32
-    ensures { result ≡ max_of a b }
+    ensures answers { result ≡ max_of a b }
+    ensures laws { MaximumPicks }
 {
     float::max(a, b)
 }
@@ -107,7 +112,8 @@ pub extern "C" fn bgz_f32_sqrt(x: f32) -> f32
 // Example: 6.25 gives (2.5, 3).
 #[unsafe(no_mangle)]
 pub extern "C" fn bgz_f32_sqrt_digits(x: f32) -> SqrtDigits
-    ensures { SquareRoot x result.root × DigitsWorked x result.root result.digits }
+    ensures root { SquareRoot x result.root }
+    ensures digits { DigitsWorked x result.root result.digits }
 {
     root::sqrt_digits(x)
 }

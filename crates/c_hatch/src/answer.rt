@@ -18,7 +18,7 @@ pub struct ReadAnswer {
     pub place: usize,
 }
 
-// By cases: each field by a call of its own would be no plainer.
+// Written by cases: a call for each field would be no plainer.
 impl From<Result<Read, RefusalAt>> for ReadAnswer {
     ghost use Rattle.c_hatch.specs.Answer.{read_answer_of};
 

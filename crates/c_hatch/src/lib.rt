@@ -10,15 +10,27 @@ ghost use Rattle.lists.specs.Lent.{written, leaves};
 ghost use Rattle.hatch_format.specs.Format.{hsl, rows};
 ghost use Rattle.hatch_format.specs.Decode.{record_count_of, itself, float_of};
 ghost use Rattle.hatch_read.specs.Read.{decode_into, read_of, read_leaves};
+ghost use Rattle.hatch_read.specs.Accepted.{ReadsExactly};
 ghost use Rattle.hatch_encode.specs.Encode.{bits_of, encode};
 ghost use Rattle.hatch_write.specs.Write.{write_of};
 ghost use Rattle.hatch_write.specs.Saved.{ReadBack, Rewritten};
+ghost use Rattle.bits.specs.Patterns.{AnyBits, OneNan};
 ghost use Rattle.report.specs.Report.{report_of};
+ghost use Rattle.report.specs.Prefix.{ReportsOnFile};
+ghost use Rattle.report.specs.declared.TheConstants.{REPORT_MAX};
 ghost use Rattle.c_answers.specs.Answers.{count_answer_of};
+ghost use Rattle.c_answers.specs.Told.{Tells};
 ghost use Rattle.c_hatch.specs.Answer.{read_answer_of};
 
 use crate::answer::ReadAnswer;
 use c_answers::CountAnswer;
+
+// What the header has as numbers: `HATCH_BYTES_MAX`, one more, which decide a report, and `HATCH_REPORT_MAX`.
+const _: () = prove!(hatch_format::BYTES_MAX == 64007);
+
+const _: () = prove!(report::PREFIX == 64008);
+
+const _: () = prove!(report::REPORT_MAX == 54014);
 
 // Reads the floats of the records of a hatch list. A float may have any bits; a NaN is read as a NaN, whose bits may differ.
 // Writes the 8 * count floats to the start of `out` and answers version and count.
@@ -31,6 +43,7 @@ use c_answers::CountAnswer;
 pub extern "C" fn bgz_hatch_read_floats(bytes: &[u8], out: &mut [f32]) -> ReadAnswer
     ensures answers { result ≡ read_answer_of (read_of (decode_into hsl rows (length out.old) bytes.now)) }
     ensures leaves { out.new ≡ read_leaves float_of (decode_into hsl rows (length out.old) bytes.now) out.old }
+    ensures means { Tells read_answer_of result (λ r. ReadsExactly float_of bytes.now r out.old out.new) }
 {
     ReadAnswer::from(hatch_read::read_floats(bytes, out))
 }
@@ -44,6 +57,7 @@ pub extern "C" fn bgz_hatch_read_floats(bytes: &[u8], out: &mut [f32]) -> ReadAn
 pub extern "C" fn bgz_hatch_read_patterns(bytes: &[u8], out: &mut [u32]) -> ReadAnswer
     ensures answers { result ≡ read_answer_of (read_of (decode_into hsl rows (length out.old) bytes.now)) }
     ensures leaves { out.new ≡ read_leaves itself (decode_into hsl rows (length out.old) bytes.now) out.old }
+    ensures means { Tells read_answer_of result (λ r. ReadsExactly itself bytes.now r out.old out.new) }
 {
     ReadAnswer::from(hatch_read::read_patterns(bytes, out))
 }
@@ -57,10 +71,10 @@ pub extern "C" fn bgz_hatch_record_count(floats: &[f32]) -> usize
     hatch_read::record_count(floats)
 }
 
-// A hatch list of version 1 from the bits of its floats, eight a record. The length of `patterns` / 8, rounded down, is the number n
-// of records: an incomplete last one does not count. To save what `hatch::read_patterns` read, hand over the 8 * count patterns that
-// it wrote: they are written as the bytes that they were read from, those of a NaN included. Whatever is written,
-// `hatch::read_patterns` reads as the same records.
+// A hatch list of version 1 from the bits of its floats, eight a record. The number n of records is the length of `patterns` / 8,
+// rounded down: an incomplete last record is not written. What is written, `hatch::read_patterns` reads as the same records. To save
+// what `hatch::read_patterns` read, hand over the 8 * count patterns that it wrote: the bytes are those that it read, also where a
+// float is a NaN.
 // Writes 7 + 32 * n bytes to the start of `out` and answers how many that is; `HATCH_BYTES_MAX` are room for any.
 // Refused: `COUNT` if n is above 2,000; `ROOM` if `out` is shorter than 7 + 32 * n.
 // Example: [1, 2, 3, 4, 5, 6, 7, 8], [9; 40] gives 39 and leaves [72, 83, 76, 1, 0, 1, 0, 1, 0, 0, 0, 2, 0, 0, 0, 3, 0, 0, 0, 4, 0, 0,
@@ -69,15 +83,16 @@ pub extern "C" fn bgz_hatch_record_count(floats: &[f32]) -> usize
 pub extern "C" fn bgz_hatch_write_patterns(patterns: &[u32], out: &mut [u8]) -> CountAnswer
     ensures answers { result ≡ count_answer_of (write_of patterns.now out.old) }
     ensures leaves { out.new ≡ leaves (write_of patterns.now out.old) (encode hsl 1 patterns.now) out.old }
-    ensures reads_back { ReadBack itself patterns.now (write_of patterns.now out.old) out.new }
-    ensures rewrites { Rewritten patterns.now (write_of patterns.now out.old) out.old out.new }
+    ensures reads_back { Tells count_answer_of result (λ r. ReadBack itself patterns.now r out.new) }
+    ensures rewrites { Tells count_answer_of result (λ r. Rewritten itself AnyBits patterns.now r out.old out.new) }
 {
     CountAnswer::from(hatch_write::write_patterns(patterns, out))
 }
 
-// `hatch::write_patterns` from the floats themselves, n records of eight. A number is written with its own bits, the sign of a zero
-// too, and a NaN with the bits 7fc00000, whatever its own were: to save what was read, patterns serve, which keep them.
-// `hatch::read_floats` reads the same floats again.
+// `hatch::write_patterns` from the floats themselves, n records of eight. A NaN is written with the bits 7fc00000, whatever its own
+// are, and every other float with its own bits. What is written, `hatch::read_floats` reads as the same records. The floats that it
+// read are written as the bytes that it read if the file's NaNs have the bits 7fc00000; `hatch::read_patterns` and
+// `hatch::write_patterns` keep the bits of every NaN.
 // Writes 7 + 32 * n bytes to the start of `out` and answers how many that is.
 // Refused: as `hatch::write_patterns` is.
 // Example: [0, 0, 4, 2, 6, -1, -1, 1], [9; 40] gives 39 and leaves [72, 83, 76, 1, 0, 1, 0, 0, 0, 0, 0, 0, 0, 0, 0, 0, 0, 128, 64, 0,
@@ -86,22 +101,26 @@ pub extern "C" fn bgz_hatch_write_patterns(patterns: &[u32], out: &mut [u8]) -> 
 pub extern "C" fn bgz_hatch_write_floats(floats: &[f32], out: &mut [u8]) -> CountAnswer
     ensures answers { result ≡ count_answer_of (write_of floats.now out.old) }
     ensures leaves { out.new ≡ leaves (write_of floats.now out.old) (encode hsl 1 (map bits_of floats.now)) out.old }
-    ensures reads_back { ReadBack float_of floats.now (write_of floats.now out.old) out.new }
+    ensures reads_back { Tells count_answer_of result (λ r. ReadBack float_of floats.now r out.new) }
+    ensures rewrites { Tells count_answer_of result (λ r. Rewritten float_of OneNan floats.now r out.old out.new) }
 {
     CountAnswer::from(hatch_write::write_floats(floats, out))
 }
 
-// The report on a hatch list, as text: each record clipped as a line. "HSL", version and count; then for each record a line with its
-// place from 1 and "miss", or "hit" with tmin and tmax as eight hexadecimal digits of their bits, any zero as 00000000. Fields stand
-// one space apart, and a line ends in a line feed. For bytes that are no hatch list the text is "refused", the number and the
-// byte that `hatch::read_floats` gives.
-// Writes as much of the text as `out` has room for to its start, with no NUL after it, and answers the bytes of the whole text.
+// The report on a hatch list, as text in ASCII. The first line is "HSL", version and count. Then each record has a line of its own:
+// its place from 1, and what `aabb::intersections_against_line` answers for its box, origin and direction: "miss", or "hit" with tmin
+// and tmax, each as the eight lower-case hexadecimal digits of its bits, any zero as 00000000. Fields stand one space apart, and a
+// line ends in a line feed. For bytes that are no hatch list the only line is "refused", the number of the refusal of
+// `hatch::read_floats`, and its byte. Bytes beyond the first `HATCH_BYTES_MAX` + 1 change nothing: they need not be handed over.
+// Writes the text to the start of `out`, with no NUL after it, and answers its length in bytes. If `out` is shorter, it is filled with
+// the first bytes of the text, and the answer is still the whole length; `HATCH_REPORT_MAX` are room for any.
 // Example: "HSL\1\0\0\0", [0; 8] gives 8 and leaves "HSL 1 0\n".
 #[unsafe(no_mangle)]
 pub extern "C" fn bgz_hatch_report(bytes: &[u8], out: &mut [u8]) -> usize
     ensures answers { result ≡ length (report_of bytes.now) }
     ensures leaves { out.new ≡ written (take (length out.old) (report_of bytes.now)) out.old }
-    ensures fits { result ≤ 54014 }
+    ensures fits { result ≤ REPORT_MAX }
+    ensures means { ReportsOnFile bytes.now result out.old out.new }
 {
     report::report(bytes, out)
 }

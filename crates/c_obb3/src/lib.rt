@@ -3,6 +3,7 @@
 
 ghost use Rattle.std.specs.Prelude.{◌≡◌};
 ghost use Rattle.c_answers.specs.Answers.{bool_answer_of};
+ghost use Rattle.c_answers.specs.Told.{Tells};
 ghost use Rattle.obb3.specs.Corners.{corners_of};
 ghost use Rattle.c_obb3.specs.Corners.{points_of};
 ghost use Rattle.obb3.specs.Point.{is_include_point_of};
@@ -54,8 +55,9 @@ pub extern "C" fn bgz_obb3_corner_points(o: Obb3) -> Corners3
     }
 }
 
-// Whether `p` is in `o`, faces included, by its dot products with u, v and w, each edge stretched by 1 + `eps`. A product that is a NaN
-// counts as inside, and a half edge of length 0 does not bound its direction.
+// Whether `p` is in `o`, faces included, by its dot products with u, v and w, as computed, each edge stretched by 1 + `eps`. With an `eps` of 0, where
+// u, v and w are at right angles and no product overflows or underflows, that is the box, but for rounding. Else it is another region. A product that
+// is a NaN counts as inside, and a half edge of length 0 does not bound its direction.
 // Example: (0, 0, 0, 2, 0, 0, 0, 1, 0, 0, 0, 1), (2, 1, 1), 0 gives true.
 #[unsafe(no_mangle)]
 pub extern "C" fn bgz_obb3_is_include_point(o: Obb3, p: Vec3, eps: f32) -> bool
@@ -64,17 +66,17 @@ pub extern "C" fn bgz_obb3_is_include_point(o: Obb3, p: Vec3, eps: f32) -> bool
     obb3::is_include_point(o, p, eps)
 }
 
-// Whether two turned boxes meet: no if on some axis the computed projections of the corners of one lie strictly below those of the other.
-// There are fifteen: u, v and w of `a`, each times 1 / its norm, those of `b`, and the cross product of each of these of `a` with each of `b`.
-// The first axis that parts the boxes, or on which a projection is a NaN, decides. Ranges whose computed ends are equal overlap; rounding
-// parts some boxes that touch.
+// Whether two turned boxes meet: no if on some axis the computed projections of the corners of one lie strictly below those of the other. There are
+// fifteen: u, v and w of `a`, each times 1 / its norm, those of `b`, and the cross product of each of these of `a` with each of `b`. The first axis
+// that parts the boxes, or on which a projection is a NaN, decides. Ranges whose computed ends are equal overlap. Rounding parts some boxes that
+// touch, and joins some that lie close.
 // Refused: `NAN_PROJECTION` if a projection is a NaN on an axis that is reached, whether it parts the boxes or not; as with a half edge of
 // length 0.
 // Example: (0, 0, 0, 1, 0, 0, 0, 1, 0, 0, 0, 1), (3, 0, 0, 1, 0, 0, 0, 1, 0, 0, 0, 1) gives false.
 #[unsafe(no_mangle)]
 pub extern "C" fn bgz_obb3_is_intersect_to_obb3(a: Obb3, b: Obb3) -> BoolAnswer
     ensures answers { result ≡ bool_answer_of (is_intersect_to_obb3_of a b) }
-    ensures promises { IsIntersectToObb3Promise a b (is_intersect_to_obb3_of a b) }
+    ensures means { Tells bool_answer_of result (IsIntersectToObb3Promise a b) }
 {
     BoolAnswer::from(obb3::is_intersect_to_obb3(a, b))
 }

@@ -1,6 +1,6 @@
 -- The claim about the figures, proved in proofs/Hold.antt: each row of the seven lists holds. Definitions only.
 use Rattle.figures.specs.Table.{Hold}
-use Rattle.figures.specs.Starred.{starred}
+use Rattle.figures.specs.Known.{known}
 use Rattle.figures.specs.Twins.{twins}
 use Rattle.figures.specs.Further.{further}
 use Rattle.figures.specs.Faces.{faces}
@@ -9,4 +9,4 @@ use Rattle.figures.specs.Inside.{insides}
 use Rattle.figures.specs.Ink.{inks}
 
 abbrev pub FiguresHold : Type 0
-FiguresHold = Hold starred × Hold twins × Hold further × Hold faces × Hold offenders × Hold insides × Hold inks
+FiguresHold = Hold known × Hold twins × Hold further × Hold faces × Hold offenders × Hold insides × Hold inks

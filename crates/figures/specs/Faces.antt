@@ -1,4 +1,4 @@
--- Document 01's lines against one box in one call, their falling twins, and what is refused. Definitions only.
+-- Lines against one box in one call, their falling twins, and what is refused. Definitions only.
 use Rattle.std.specs.Prelude.{List, [], ◌∷◌, Float}
 use Rattle.types.specs.declared.shape.Aabb2.{Aabb2}
 use Rattle.types.specs.declared.refusal.Refusal.TheVariants.{Room, Lines}

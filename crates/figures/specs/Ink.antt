@@ -1,5 +1,5 @@
--- Document 02's stroke that cuts a corner of a box, its falling twins and others: ink is the length from where the stroke comes into the box, or
--- starts, to where it leaves it, or ends. Definitions only.
+-- A stroke that cuts a corner of a box, its falling twins and others. Ink is the length from where the stroke comes into the box, or starts, to where
+-- it leaves it, or ends. Definitions only.
 use Rattle.std.specs.Prelude.{List, [], ◌∷◌, Float, Result, Ok, Err}
 use Rattle.std.specs.Float.{nan}
 use Rattle.types.specs.declared.shape.Vec2.{Vec2}
@@ -21,7 +21,7 @@ between p q = Ok (length_of p q)
 
 abbrev pub inks : List (Type 0)
 inks =
-    -- "Stroke 0 0 to 4 1 in box 0 0 1 1 .. ink lies only from 0 0 to 1 0.25"; and backwards
+    -- 0 0 to 4 1 in the box 0 0 1 1: the ink lies from 0 0 to 1 0.25; and backwards
     ink (at (plus 0) (plus 0)) (at (plus 4) (plus 1)) unit (between (at (plus 0) (plus 0)) (at (plus 1) (quarters 1)))
     ∷ ink (at (plus 4) (plus 1)) (at (plus 0) (plus 0)) unit (between (at (plus 1) (quarters 1)) (at (plus 0) (plus 0)))
     -- the falling twin in the same box, 0 1 to 4 0, and the first mirrored in x, 0 0 to -4 1 in the box -1 0 0 1

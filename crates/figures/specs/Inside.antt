@@ -1,4 +1,4 @@
--- Document 02's strokes that stay on the sheet, each with its falling twin or backwards, and how long a list always serves. Definitions only.
+-- Strokes that stay on the sheet, each with its falling twin or backwards, and how long a list always serves. Definitions only.
 use Rattle.std.specs.Prelude.{true, List, [], ◌∷◌, negsuc, Float}
 use Rattle.std.specs.Float.{fin}
 use Rattle.figures.specs.Table.{plus, halves, at, stroke, inside, bound}
@@ -17,7 +17,7 @@ insides =
     -- corner to corner, 0.5 3.5 to 3.5 0.5, and the falling twin, 3.5 3.5 to 0.5 0.5
     ∷ inside (at (halves 1) (halves 7)) (at (halves 7) (halves 1)) 4 4 (12 ∷ 9 ∷ 6 ∷ 3 ∷ [])
     ∷ inside (at (halves 7) (halves 7)) (at (halves 1) (halves 1)) 4 4 (15 ∷ 10 ∷ 5 ∷ 0 ∷ [])
-    -- up the right margin, 3.5 0.5 to 3.5 3.5, and down the left one
+    -- down the right margin, since y grows downwards, 3.5 0.5 to 3.5 3.5, and up the left one, 0.5 3.5 to 0.5 0.5
     ∷ inside (at (halves 7) (halves 1)) (at (halves 7) (halves 7)) 4 4 (3 ∷ 7 ∷ 11 ∷ 15 ∷ [])
     ∷ inside (at (halves 1) (halves 7)) (at (halves 1) (halves 1)) 4 4 (12 ∷ 8 ∷ 4 ∷ 0 ∷ [])
     -- D is exact: from 0 to 1 it is 1, and from 2 ^ -149 below 0 it is 2, though the rounded difference is 1

@@ -1,5 +1,5 @@
 pub mod Table
-pub mod Starred
+pub mod Known
 pub mod Twins
 pub mod Further
 pub mod Faces

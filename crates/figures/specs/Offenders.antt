@@ -1,4 +1,4 @@
--- Document 02's refused strokes: which coordinate, and what about it. Definitions only.
+-- Refused strokes: which coordinate offends, and by what. Definitions only.
 use Rattle.std.specs.Prelude.{List, [], ◌∷◌, Float, true, false}
 use Rattle.std.specs.Float.{nan, inf}
 use Rattle.types.specs.declared.refusal.Refusal.TheVariants.{SameEnds, Coordinate, Size, NotFinite}

@@ -1,4 +1,4 @@
--- How document 01's table of figures is written: its numbers, its shapes, and what a row of each kind says. Definitions only.
+-- How figures are written: their numbers, their shapes, and what a row of each kind says. Definitions only.
 use Prim.{Unit}
 use Rattle.std.specs.Prelude.{◌≡◌, Bool, true, false, List, [], ◌∷◌, ℕ, ◌-◌, length, Float, Option, Result, Ok, Err}
 use Rattle.std.specs.Float.{binary32}

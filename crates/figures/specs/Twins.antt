@@ -1,4 +1,4 @@
--- The falling twins of document 01's starred lines, ray and stroke, in its order: x mirrored, so that what leans one way leans the other.
+-- The falling twins of the lines, the ray and the stroke of Known.antt, in its order: x is mirrored, so that what leans one way leans the other.
 -- The first and the third line are twins of each other already. Definitions only.
 use Rattle.std.specs.Prelude.{List, [], ◌∷◌}
 use Rattle.slabs.specs.declared.Interval.TheVariants.{Miss, Hit}

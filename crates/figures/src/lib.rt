@@ -1,5 +1,5 @@
-// Figures with known results, document 01's and some more. There is no code here: specs/Starred.antt has the starred rows as one list,
-// specs/Twins.antt their falling twins, specs/Further.antt some more, specs/Faces.antt those of a whole face, specs/Offenders.antt and
-// specs/Inside.antt document 02's strokes, specs/Ink.antt its ink, and proofs/Hold.antt shows that each holds for the definitions.
-// tests/figures.txt has every row, starred or not, to be run by the library and by the Rust.
+// Figures with known results. There is no code here. specs/Known.antt has lines, a ray, overlaps, a raster, tiles and a stroke, specs/Twins.antt their
+// falling twins, specs/Further.antt more tiles and strokes, specs/Faces.antt lines clipped in one call, specs/Offenders.antt refused strokes,
+// specs/Inside.antt strokes that stay on the sheet, and specs/Ink.antt ink. proofs/Hold.antt shows that each row holds for the definitions.
+// The library and the Rust are run on the rows of tests/figures.txt, which are of these kinds and others.
 #![tactic(auto)]

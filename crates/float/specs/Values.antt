@@ -9,7 +9,7 @@ abs_of nan = nan
 abs_of (inf s) = inf false
 abs_of (fin s m e) = fin false m e
 
--- b where a is no number or b is below a, and a otherwise: so a where b is no number, and a of two zeros
+-- b where a is a NaN or b is below a, and a otherwise: so a where b alone is a NaN, and a of two zeros
 unfoldable pub min_of : Float → Float → Float
 min_of a b = cond (is_nan a || lt b a) b a
 
@@ -20,7 +20,7 @@ max_of a b = cond (is_nan a || lt a b) b a
 unfoldable pub clamp_of : Float → Float → Float → Float
 clamp_of x low high = cond (lt x low) low (cond (lt high x) high x)
 
--- the minimum and the maximum with no test of a for a NaN, and that test alone
+-- the minimum and the maximum without the test of a for a NaN, and that test alone
 unfoldable pub lesser_of : Float → Float → Float
 lesser_of a b = cond (lt b a) b a
 

@@ -23,7 +23,7 @@ pub fn is_finite(x: f32) -> bool
     x.is_finite()
 }
 
-// The smaller of two numbers, and the other one where one is a NaN.
+// The smaller of two numbers, and of two zeros the first. Where one is a NaN, the other one.
 #[tactic(auto, unfolding(crate::specs::Values::min_of))]
 pub fn min(a: f32, b: f32) -> f32
     ensures { result ≡ min_of a b }
@@ -37,7 +37,7 @@ pub fn min(a: f32, b: f32) -> f32
     }
 }
 
-// The larger of two numbers, and the other one where one is a NaN.
+// The larger of two numbers, and of two zeros the first. Where one is a NaN, the other one.
 #[tactic(auto, unfolding(crate::specs::Values::max_of))]
 pub fn max(a: f32, b: f32) -> f32
     ensures { result ≡ max_of a b }
@@ -51,8 +51,8 @@ pub fn max(a: f32, b: f32) -> f32
     }
 }
 
-// Low below low, high above high, and else x itself, a NaN too. Two bounds, as the standard library's clamp takes them: crate types, which has
-// `Range`, stands above this one.
+// `low` where x is below it, else `high` where x is above it, else x, a NaN too. Two bounds, as the standard library's clamp takes them: crate types,
+// which has `Range`, stands above this one.
 pub fn clamp(x: f32, low: f32, high: f32) -> f32
     ensures { result ≡ clamp_of x low high }
 {
@@ -65,21 +65,21 @@ pub fn clamp(x: f32, low: f32, high: f32) -> f32
     }
 }
 
-// The minimum by one test, right where a is a number. proofs/Laws.antt says when it may stand for `min`.
+// The minimum by one comparison. It is `min` wherever a is a number. proofs/Laws.antt says when it may stand for `min`.
 pub fn lesser(a: f32, b: f32) -> f32
     ensures { result ≡ lesser_of a b }
 {
     if b < a { b } else { a }
 }
 
-// The maximum by one test, right where a is a number.
+// The maximum by one comparison. It is `max` wherever a is a number.
 pub fn greater(a: f32, b: f32) -> f32
     ensures { result ≡ greater_of a b }
 {
     if b > a { b } else { a }
 }
 
-// a, or b in the place of a NaN.
+// a, or b where a is a NaN.
 #[tactic(auto, unfolding(crate::specs::Values::number_or_of))]
 pub fn number_or(a: f32, b: f32) -> f32
     ensures { result ≡ number_or_of a b }

@@ -1,10 +1,12 @@
 -- What is written reads as what it was written from, and what was read is written as it stood: every bit, those of a NaN too. For any mark of
 -- three bytes and any table with a version whose records are eight floats.
-use mathlib.Core.Path.{◌≡◌, refl, sym, ap, ◌∙◌}
+use mathlib.Core.Path.{◌≡◌, refl, sym, ap, ◌∙◌, subst}
 use mathlib.Core.List.{List, []}
 use Prim.Native.Nat.{ℕ, ◌+◌, ◌*◌, ◌/◌, ◌%◌, ◌<◌, ◌≤◌}
 use native.Mathlib.Omega.{arith}
-use lib.ListN.{length, get_or, take, drop, length-take}
+use native.Mathlib.Decide.{dec_le}
+use lib.Dec.{lit<}
+use lib.ListN.{length, get_or, take, drop, length-take, get_or-eq_default}
 use lib.Seq.{get_or-drop, get_or-take, drop-drop, take_all, length-take-le}
 use Rattle.lists.specs.Places.{upto}
 use Rattle.lists.proofs.Entries.{get_d_upto, listed}
@@ -132,7 +134,23 @@ module _ (b : List ℕ) (small : Below 256 b) (n : ℕ) (whole : length b ≡ 7 
       let few : i < record_count_of read = omega (arith, count_records read) in
       ap record_bytes (record_is read i few) ∙ record_again i (omega (arith, count_read))
 
--- ---- document 02's two sentences
+-- ---- the bits of a file's floats, 32 each
+
+patterns_below : (width n : ℕ) (b : List ℕ) → Below 256 b → Below 4294967296 (patterns_of width b n)
+patterns_below width n b small k = elim (dec_le (8 * n) k) [
+  | yes a ↦ rw (get_or-eq_default (patterns_of width b n) 0 {n = k} (omega (arith, length_upto (pattern_at_of width b) (8 * n)))) (lit< tt)
+  | no a ↦
+      let at = record_place width (k / 8) + 4 * (k % 8) in
+      omega (arith, get_d_upto (pattern_at_of width b) 0 (8 * n) k (omega arith), small at, small (at + 1), small (at + 2), small (at + 3))
+]
+
+pub accepted_below : (mark : List ℕ) (table : List Row) (b : List ℕ) (v n : ℕ) (ps : List ℕ) → Below 256 b → decode mark table b ≡ accepted v n ps
+    → Below 4294967296 ps
+accepted_below mark table b v n ps small e =
+    let t = taken mark table b v n ps e in
+    subst (Below 4294967296) t.patterns (patterns_below t.row.width n b small)
+
+-- ---- written and read, read and written
 
 pub decodes_encoded : DecodesEncoded
 unfolding decode body_of encode

@@ -17,19 +17,16 @@ half_bytes x = bytes_of 2 x
 abbrev pub word_bytes : ℕ → List ℕ
 word_bytes x = bytes_of 4 x
 
--- the bits of a float, which for a NaN are 7fc00000, and their bytes
+-- the bits of a float, which for a NaN are 7fc00000
 abbrev pub bits_of : Float → ℕ
 bits_of x = to_bits binary32 x
-
-abbrev pub float_bytes : Float → List ℕ
-float_bytes x = word_bytes (bits_of x)
 
 -- what f gives for each entry, one after the other
 unfoldable pub joined : {A B : Type 0} → (A → List B) → List A → List B
 joined f [] = []
 joined f (x ∷ s) = f x ++ joined f s
 
--- of a list with eight entries a record: record i, and every record
+-- record i of a list with eight entries a record, and all its records
 abbrev pub record_in : {A : Type 0} → List A → ℕ → List A
 record_in l i = take 8 (drop (8 * i) l)
 

@@ -1,5 +1,6 @@
--- Reading and writing undo each other, for any mark of three bytes and any table of versions: first for records of any kind and width, by the
--- bytes of each, then for records of eight floats. The proofs are in proofs/Files.antt and proofs/RoundTrip.antt. Definitions only.
+-- Reading and writing undo each other, for any mark of three bytes and any table of versions: first for records of any kind and width, given by
+-- their bytes, then for records of eight floats. The four statements are proved in proofs/Files.antt and proofs/RoundTrip.antt; the contracts of
+-- hatch_write have what they say of version 1. Definitions only.
 use Rattle.std.specs.Prelude.{◌≡◌, List, ℕ, ◌*◌, ◌<◌, ◌≤◌, length, get_or, take, drop, Some}
 use Rattle.hatch_format.specs.Format.{layout_of, head, head_of}
 use Rattle.hatch_format.specs.Decode.{record_count_of, accepted, decode}
@@ -20,14 +21,14 @@ pub record InTable (table : List Row) (r : Row) : Type 0 where
 abbrev pub record_part : ℕ → List ℕ → ℕ → List ℕ
 record_part width b i = take width (drop (width * i) (drop 7 b))
 
--- records whose bytes, by f, are as many as the version has: their file is accepted
+-- if f gives each record as many bytes as the version has, the file of these records is accepted
 abbrev pub AcceptsWritten : Type 1
 AcceptsWritten =
     (A : Type 0) (f : A → List ℕ) (d : A) (mark : List ℕ) (table : List Row) (r : Row) → length mark ≡ 3 → InTable table r
     → (rs : List A) → length rs ≤ r.limit → ((i : ℕ) → i < length rs → length (f (get_or rs i d)) ≡ r.width)
     → head_of mark table (file_of f mark r.version rs) ≡ head r (length rs)
 
--- records whose bytes, by f, are those of an accepted file: their file is that one
+-- if f gives each record the bytes that it has in an accepted file, the file of these records is that file
 abbrev pub WritesAccepted : Type 1
 WritesAccepted =
     (A : Type 0) (f : A → List ℕ) (d : A) (mark : List ℕ) (table : List Row) (r : Row) → length mark ≡ 3
@@ -35,14 +36,14 @@ WritesAccepted =
     → ((i : ℕ) → i < length rs → f (get_or rs i d) ≡ record_part r.width b i)
     → file_of f mark r.version rs ≡ b
 
--- "For every file that the reader accepts, writing its records gives the same bytes, NaN bits included"
+-- the bits of the floats of an accepted file are written as the bytes of that file
 abbrev pub EncodesDecoded : Type 0
 EncodesDecoded =
     (mark : List ℕ) (table : List Row) (r : Row) → length mark ≡ 3 → InTable table r → r.width ≡ 32
     → (b : List ℕ) (n : ℕ) (ps : List ℕ) → Below 256 b → decode mark table b ≡ accepted r.version n ps
     → encode mark r.version ps ≡ b
 
--- "for every record list of at most 2,000, the written bytes read as those records"
+-- what is written of a list of records that are not too many is accepted, and reads as these records
 abbrev pub DecodesEncoded : Type 0
 DecodesEncoded =
     (mark : List ℕ) (table : List Row) (r : Row) → length mark ≡ 3 → InTable table r → r.width ≡ 32

@@ -14,6 +14,7 @@ use Rattle.hatch_format.specs.Format.{hsl, rows, layout_of, expected_length, wro
 use Rattle.hatch_format.specs.Decode.{pattern_at_of, Answer, body_of, decode}
 use Rattle.hatch_format.specs.declared.header.Row.{Row}
 use Rattle.hatch_format.specs.declared.header.Head.{Head}
+use Rattle.hatch_format.specs.declared.header.TheConstants.{BYTES_MAX}
 use Rattle.std.specs.Prelude.{Option, None, Some, Result, Ok, Err}
 use Rattle.types.specs.declared.refusal.Refusal.TheVariants.{Mark, Count}
 use Rattle.types.specs.declared.refusal.RefusalAt.{RefusalAt}
@@ -21,21 +22,21 @@ use Rattle.types.specs.Refusal.{number_of, refusal_at}
 use Rattle.hatch_format.proofs.Table.{Fine, fine, found}
 use Rattle.hatch_format.proofs.Accepted.{accepted_file}
 
--- a refusal's number is one of document 01's, and its byte one of the longest file's, or that file's end
+-- a refusal's number is one of a hatch list's, and its byte is in the longest file or that file's end
 unfoldable Numbered : Result Head RefusalAt → Type 0
-Numbered (Err at) = (number_of at.refusal ≤ 13) × (at.place ≤ 64007)
+Numbered (Err at) = (number_of at.refusal ≤ 13) × (at.place ≤ BYTES_MAX)
 Numbered (Ok h) = Unit
 
 either : (t : Bool) (g h : Result Head RefusalAt) → (t ≡ true → Numbered g) → (t ≡ false → Numbered h) → Numbered (cond t g h)
 either true g h x y = x refl
 either false g h x y = y refl
 
-length_numbered : (size expected : ℕ) → expected ≤ 64007 → Numbered (Err (wrong_length_of size expected))
+length_numbered : (size expected : ℕ) → expected ≤ BYTES_MAX → Numbered (Err (wrong_length_of size expected))
 unfolding Numbered
 length_numbered size expected h = (lit≤ tt, omega arith)
 
 -- no accepted count makes a longer file
-expected_short : (r : Row) (n : ℕ) → Fine r → n ≤ r.limit → expected_length r n ≤ 64007
+pub expected_short : (r : Row) (n : ℕ) → Fine r → n ≤ r.limit → expected_length r n ≤ BYTES_MAX
 expected_short r n f h = omega (arith, mul-le-mul_left r.width h, f.short)
 
 sized_numbered : (r : Row) (size n : ℕ) → Fine r → Numbered (sized_of r size n)
@@ -60,7 +61,7 @@ head_numbered b =
 
 -- the numbers of a hatch list
 unfoldable pub Bounded : Answer → Type 0
-Bounded (Err at) = (number_of at.refusal ≤ 13) × (at.place ≤ 64007)
+Bounded (Err at) = (number_of at.refusal ≤ 13) × (at.place ≤ BYTES_MAX)
 Bounded (Ok c) = (c.version < 10000) × (c.count ≤ 2000) × (length c.patterns ≡ 8 * c.count)
 
 body_bounded : (b : List ℕ) (h : Result Head RefusalAt) → head_of hsl rows b ≡ h → Bounded (body_of h b)

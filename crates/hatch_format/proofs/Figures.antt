@@ -7,7 +7,14 @@ use Rattle.lists.specs.Places.{upto}
 use Rattle.types.specs.declared.refusal.Refusal.TheVariants.{Mark, Version, Count, Length}
 use Rattle.hatch_format.specs.Bytes.{starts_with_of}
 use Rattle.hatch_format.specs.Format.{hsl, rows, layout_of, sized_of, versioned_of, head_of}
-use Rattle.hatch_format.specs.Decode.{Answer, refused, accepted, body_of, decode}
+use Rattle.hatch_format.specs.Decode.{Answer, accepted, body_of, decode}
+use Rattle.types.specs.declared.refusal.Refusal.{Refusal}
+use Rattle.types.specs.Refusal.{refusal_at}
+use Rattle.std.specs.Prelude.{Err}
+
+-- a refusal with its byte
+abbrev pub refused : Refusal → ℕ → Answer
+refused refusal place = Err (refusal_at refusal place)
 
 -- a header, by the low and the high byte of version and count
 abbrev opening : ℕ → ℕ → ℕ → ℕ → List ℕ

@@ -4,5 +4,6 @@ pub mod Table
 pub mod Accepted
 pub mod HatchLists
 pub mod Bounds
+pub mod Prefix
 pub mod Records
 pub mod Figures

@@ -8,6 +8,7 @@ use lib.Dec.{eqb, lit≤}
 use borrow.Author.Tests.{eqb-true}
 use Rattle.hatch_format.specs.Format.{rows, layout_of}
 use Rattle.hatch_format.specs.declared.header.Row.{Row}
+use Rattle.hatch_format.specs.declared.header.TheConstants.{BYTES_MAX}
 use Rattle.std.specs.Prelude.{Some}
 
 unfoldable pub Each : (Row → Type 0) → List Row → Type 0
@@ -32,13 +33,14 @@ found_version table v r e = (found (λ (_ : Row). Unit) table v r (each_row tabl
     each_row [] = tt
     each_row (r ∷ t) = (tt, each_row t)
 
--- what is relied on of a version: a record holds its eight floats, a length fits and is at most 64,007, and a report has room in 54,014 bytes
+-- what is relied on of a version: a record holds its eight floats, no file is longer than BYTES_MAX, and a report says version and count in four
+-- digits each
 pub record Fine (r : Row) : Type 0 where
   pub digits : r.version < 10000
   pub wide : 32 ≤ r.width
   pub narrow : r.width < 65536
   pub few : r.limit ≤ 2000
-  pub short : 7 + r.width * r.limit ≤ 64007
+  pub short : 7 + r.width * r.limit ≤ BYTES_MAX
 
 pub fine : Each Fine rows
 unfolding Each

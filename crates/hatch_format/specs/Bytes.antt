@@ -1,4 +1,4 @@
--- Numbers in a list of bytes, little-endian, and marks at its start. Past the end of the list every byte is 0. Definitions only.
+-- Little-endian numbers in a list of bytes, and marks at its start. A byte past the end of the list counts as 0. Definitions only.
 use Rattle.std.specs.Prelude.{Bool, true, false, ◌&&◌, List, [], ◌∷◌, ℕ, ◌+◌, ◌*◌, eqb, get_or}
 
 -- the 16-bit number at a byte
@@ -9,7 +9,7 @@ half_at b at = get_or b at 0 + 256 * get_or b (at + 1) 0
 abbrev pub word_at : List ℕ → ℕ → ℕ
 word_at b at = get_or b at 0 + 256 * get_or b (at + 1) 0 + 65536 * get_or b (at + 2) 0 + 16777216 * get_or b (at + 3) 0
 
--- of the 32-bit numbers that follow each other from a byte on, number i
+-- number i, from 0 on, of the 32-bit numbers that begin at a byte
 abbrev pub word_from : List ℕ → ℕ → ℕ → ℕ
 word_from b at i = word_at b (at + 4 * i)
 

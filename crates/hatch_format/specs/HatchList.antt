@@ -1,20 +1,22 @@
--- Document 01's hatch list, and that exactly such files are accepted. Definitions only.
-use Rattle.std.specs.Prelude.{◌≡◌, true, List, ℕ, ◌+◌, ◌*◌, ◌≤◌, length}
+-- What a hatch list is, and that exactly hatch lists are accepted. docs/FORMAT.md has the rules. Definitions only.
+use Rattle.std.specs.Prelude.{◌≡◌, true, List, ℕ, ◌+◌, ◌*◌, ◌≤◌, length, Result, Ok}
 use Rattle.hatch_format.specs.Bytes.{half_at, starts_with_of}
-use Rattle.hatch_format.specs.Format.{hsl, rows}
-use Rattle.hatch_format.specs.Decode.{patterns_of, accepted, decode}
+use Rattle.hatch_format.specs.Format.{version_one_of, head}
+use Rattle.hatch_format.specs.declared.header.Head.{Head}
+use Rattle.types.specs.declared.refusal.RefusalAt.{RefusalAt}
 
--- "Bytes `HSL`; 16-bit version 1; 16-bit count n; n records of eight f32 [..]; whole length 7 + 32n, n from 0 to 2,000"
-pub record HatchList (b : List ℕ) (n : ℕ) : Type 0 where
-  pub mark : starts_with_of hsl b ≡ true
+-- the bytes b are a hatch list with this mark and n records: mark, version 1 and count n, which is at most 2,000, and then 32 bytes a record
+pub record HatchList (mark b : List ℕ) (n : ℕ) : Type 0 where
+  pub marked : starts_with_of mark b ≡ true
   pub version : half_at b 3 ≡ 1
   pub count : half_at b 5 ≡ n
   pub few : n ≤ 2000
   pub whole : length b ≡ 7 + 32 * n
 
--- each is accepted, and nothing else is; proved in proofs/HatchLists.antt
-abbrev pub Accepts : Type 0
-Accepts = (b : List ℕ) (n : ℕ) → HatchList b n → decode hsl rows b ≡ accepted 1 n (patterns_of 32 b n)
+-- of what is answered to the bytes b: if they are a hatch list, they are accepted, as version 1 with their count
+abbrev pub Accepts : List ℕ → List ℕ → Result Head RefusalAt → Type 0
+Accepts mark b answer = (n : ℕ) → HatchList mark b n → answer ≡ head version_one_of n
 
-abbrev pub AcceptsOnly : Type 0
-AcceptsOnly = (b : List ℕ) (v n : ℕ) (ps : List ℕ) → decode hsl rows b ≡ accepted v n ps → HatchList b n
+-- if they are accepted, they are a hatch list, of that version and with that count
+abbrev pub AcceptsOnly : List ℕ → List ℕ → Result Head RefusalAt → Type 0
+AcceptsOnly mark b answer = (h : Head) → answer ≡ Ok h → (h.row ≡ version_one_of) × HatchList mark b h.count

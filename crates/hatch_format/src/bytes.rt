@@ -1,5 +1,4 @@
-// Numbers in a list of bytes, little-endian, each from the byte at which the format has it.
-// The format names bytes: the place beside a list is the format's, and no count that a caller keeps.
+// Little-endian numbers in the bytes of a file. `at` is the byte at which a number or a record begins.
 ghost use Rattle.std.specs.Prelude.{◌≡◌, ◌+◌, ◌<◌, ◌≤◌, length};
 ghost use Rattle.lists.specs.Places.{upto};
 ghost use Rattle.hatch_format.specs.Bytes.{half_at, word_at, word_from};
@@ -21,7 +20,7 @@ fn word(bytes: &[u8], at: usize) -> u32
     u32::from_le_bytes([bytes[at], bytes[at + 1], bytes[at + 2], bytes[at + 3]])
 }
 
-// Eight 32-bit numbers, one after the other. Written out: a closure over the places would need a clause on where each may stand.
+// Eight 32-bit numbers, one after the other. They are written out, since a closure over their places would need a `requires` of its own.
 #[tactic(auto, unfolding(lists::specs::Places::upto))]
 fn words(bytes: &[u8; 32]) -> [u32; 8]
     ensures { result ≡ upto (word_from bytes.now 0) 8 }
@@ -40,15 +39,14 @@ fn words(bytes: &[u8; 32]) -> [u32; 8]
 
 // The bits of the eight floats of the record at a byte, if the bytes do not end before it does.
 #[tactic(auto, unfolding(crate::specs::Decode::record_words_of))]
-pub fn record_words(bytes: &[u8], at: usize) -> Option<[u32; 8]>
+fn record_words(bytes: &[u8], at: usize) -> Option<[u32; 8]>
     ensures { result ≡ record_words_of bytes.now at }
 {
     let record = bytes.get(at..)?.first_chunk::<32>()?;
     Some(words(record))
 }
 
-// The same, for a caller that takes zeros where the bytes end before it does, or that has a whole record. It stays beside `record_words`: a function
-// that could not fail still cannot.
+// The bits of the eight floats of the record at a byte: zeros if the bytes end before it does.
 #[tactic(auto, unfolding(crate::specs::Decode::record_words_of, crate::specs::Decode::record_bits_of))]
 pub fn record_bits(bytes: &[u8], at: usize) -> [u32; 8]
     ensures { result ≡ record_bits_of bytes.now at }

@@ -1,12 +1,15 @@
 // The header of a hatch list: mark, version and count, and the length that follows from them.
 ghost use Rattle.std.specs.Prelude.{◌≡◌, ◌<◌};
 ghost use Rattle.hatch_format.specs.Format.{version_one_of, rows, layout_of, wrong_length_of, sized_of, head_of};
+ghost use Rattle.hatch_format.specs.HatchList.{Accepts, AcceptsOnly};
 
 use crate::bytes::half;
 use types::{Refusal, RefusalAt};
 
+// The mark of a hatch list.
 pub const HSL: [u8; 3] = [b'H', b'S', b'L'];
 
+// The bytes at which mark, version, count and records begin.
 pub const MARK_AT: usize = 0;
 
 pub const VERSION_AT: usize = 3;
@@ -15,7 +18,7 @@ pub const COUNT_AT: usize = 5;
 
 pub const RECORDS_AT: usize = 7;
 
-// A version, the bytes of one of its records, and the most records.
+// A version: its number, the bytes of one record, and the most records of a file.
 #[derive(Clone, Copy, Debug, PartialEq, Eq)]
 pub struct Row {
     pub version: usize,
@@ -23,22 +26,27 @@ pub struct Row {
     pub limit: usize,
 }
 
-// The row of the file's version, and how many records it has.
+const VERSION_ONE: Row = Row {
+    version: 1,
+    width: 32,
+    limit: 2000,
+};
+
+// The bytes of the longest file that is accepted.
+pub const BYTES_MAX: usize = RECORDS_AT + VERSION_ONE.width * VERSION_ONE.limit;
+
+// What an accepted header says: the row of the file's version, and how many records the file has.
 #[derive(Clone, Copy, Debug, PartialEq, Eq)]
 pub struct Head {
     pub row: Row,
     pub count: usize,
 }
 
-// Version 1, which is the one that is written.
+// Version 1, the version of the files that are written.
 pub fn version_one() -> Row
     ensures { result ≡ version_one_of }
 {
-    Row {
-        version: 1,
-        width: 32,
-        limit: 2000,
-    }
+    VERSION_ONE
 }
 
 #[tactic(auto, unfolding(crate::specs::Format::layout_of))]
@@ -48,14 +56,14 @@ fn layout_of(version: usize) -> Option<Row>
     (version == 1).then(version_one)
 }
 
-// A length that is not the expected one: the byte is where the shorter of the two ends.
+// The refusal of a file whose length is not the expected one. Its byte is the smaller of the two lengths.
 fn wrong_length(size: usize, expected: usize) -> RefusalAt
     ensures { result ≡ wrong_length_of size expected }
 {
     Refusal::Length.at(size.min(expected))
 }
 
-// Tests the count, then the length.
+// Tests the count, then the length of the file, `size`.
 #[tactic(auto, unfolding(crate::specs::Format::sized_of))]
 fn sized(row: Row, size: usize, count: usize) -> Result<Head, RefusalAt>
     requires { (row.width < 65536) × (count < 65536) }
@@ -71,9 +79,11 @@ fn sized(row: Row, size: usize, count: usize) -> Result<Head, RefusalAt>
     Ok(Head { row, count })
 }
 
-// What the header says of a file with this mark, or the first refusal.
+// What the header of a file with this mark says, or the first refusal. Exactly hatch lists are accepted.
 pub fn head_of(mark: &[u8], bytes: &[u8]) -> Result<Head, RefusalAt>
-    ensures { result ≡ head_of mark.now rows bytes.now }
+    ensures answers { result ≡ head_of mark.now rows bytes.now }
+    ensures accepts { Accepts mark.now bytes.now result }
+    ensures accepts_only { AcceptsOnly mark.now bytes.now result }
 {
     if !bytes.starts_with(mark) {
         return Err(Refusal::Mark.at(MARK_AT));

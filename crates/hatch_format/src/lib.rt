@@ -4,5 +4,7 @@
 mod bytes;
 mod header;
 
-pub use bytes::{record_bits, record_words};
-pub use header::{COUNT_AT, HSL, Head, MARK_AT, RECORDS_AT, Row, VERSION_AT, head_of, version_one};
+pub use bytes::record_bits;
+pub use header::{
+    BYTES_MAX, COUNT_AT, HSL, Head, MARK_AT, RECORDS_AT, Row, VERSION_AT, head_of, version_one,
+};

@@ -1,4 +1,3 @@
-pub mod Floats
 pub mod Loading
 pub mod Reading
 pub mod Figures

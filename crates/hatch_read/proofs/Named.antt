@@ -1,4 +1,4 @@
--- A law that docs/PORT.md names. No proof cites it today; it stands, since a law that a page names stays.
+-- The records of a file, as parts of the list of its entries. No proof cites this law. It stands because docs/PORT.md names it.
 use mathlib.Core.Path.{◌≡◌, sym, ap, ◌∙◌}
 use mathlib.Core.List.{List, map}
 use Prim.Native.Nat.{ℕ, ◌+◌, ◌*◌, ◌<◌, ◌≤◌}

@@ -10,20 +10,21 @@ use Rattle.types.specs.declared.refusal.Refusal.TheVariants.{Room}
 use Rattle.types.specs.declared.refusal.RefusalAt.{RefusalAt}
 use Rattle.types.specs.Refusal.{refusal_at}
 
--- Room, last of all, for a list of `room` entries that does not hold eight floats a record; it is told where the file ends
+-- the last test, of the list to read into: Room if its `room` entries are fewer than eight a record. Its byte is the length of the file
 unfoldable pub with_room : ℕ → Result Head RefusalAt → Result Head RefusalAt
 with_room room (Err at) = Err at
 with_room room (Ok h) = cond (ltb room (8 * h.count)) (Err (refusal_at Room (expected_length h.row h.count))) (Ok h)
 
--- what a file says, for such a list to read into
+-- what a file says to a reader that has such a list
 unfoldable pub decode_into : List ℕ → List Row → ℕ → List ℕ → Answer
 decode_into mark table room b = body_of (with_room room (head_of mark table b)) b
 
+-- what a reader answers
 unfoldable pub read_of : Answer → Result Read RefusalAt
 read_of (Err at) = Err at
 read_of (Ok c) = Ok (record { version = c.version; count = c.count })
 
--- the lent list afterwards: the floats' bits, each through f, in its first entries
+-- the lent list afterwards: its first entries are the floats, as f reads them from their bits; on a refusal it is as it was
 unfoldable pub read_leaves : {A : Type 0} → (ℕ → A) → Answer → List A → List A
 read_leaves f (Err at) l = l
 read_leaves f (Ok c) l = written (map f c.patterns) l

@@ -1,9 +1,9 @@
--- A record, from the bits of its eight floats. Definitions only.
+-- A record: a box and a line, from eight floats or from their bits. Definitions only.
 use Rattle.std.specs.Prelude.{List, ℕ, get_or, Float}
 use Rattle.hatch_format.specs.Decode.{float_of}
 use Rattle.hatch_read.specs.declared.Record.{Record}
 
--- float j is e j: box (low x, low y, high x, high y), point, direction
+-- of floats e 0 to e 7: box (low x, low y, high x, high y), point, direction
 abbrev pub record_by : (ℕ → Float) → Record
 record_by e = record {
   face = record { min_x = e 0; min_y = e 1; max_x = e 2; max_y = e 3 };

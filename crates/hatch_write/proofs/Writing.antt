@@ -1,4 +1,4 @@
--- What a writer answers and leaves, by the test that it made, and what that says of document 02's two sentences.
+-- What a writer answers and leaves, by the test that it made, and that its records are read back and rewritten.
 use mathlib.Core.Path.{◌≡◌, refl, sym, ap, ◌∙◌}
 use mathlib.Core.Bool.{Bool, true, false, cond}
 use mathlib.Core.List.{List, [], ◌∷◌, ◌++◌, map}
@@ -17,16 +17,17 @@ use Rattle.lists.specs.Lent.{written, leaves}
 use Rattle.lists.proofs.Fill.{sets_append}
 use Rattle.lists.proofs.Lent.{no_count, same_count, sets_written}
 use Rattle.hatch_format.specs.Format.{hsl, version_one_of, rows, layout_of, expected_length}
-use Rattle.hatch_format.specs.Decode.{Contents, record_count_of, accepted, decode}
+use Rattle.hatch_format.specs.Decode.{record_count_of, accepted, decode}
 use Rattle.hatch_format.specs.declared.header.Row.{Row}
-use Rattle.hatch_format.proofs.HatchLists.{accepts, accepts_only}
+use Rattle.hatch_format.proofs.Accepted.{taken}
+use Rattle.hatch_format.proofs.HatchLists.{accepts_only}
 use Rattle.hatch_read.proofs.Reading.{into_plain, plain_into}
 use Rattle.hatch_encode.specs.Encode.{word_bytes, joined, records_in, whole_records, head_bytes, file_of, record_bytes, encode}
 use Rattle.hatch_write.specs.Write.{size_of, write_of}
 use Rattle.hatch_write.specs.Saved.{ReadBack, Rewritten}
 use Rattle.hatch_encode.proofs.Joined.{joined_twice, count_records, records_joined}
 use Rattle.hatch_encode.specs.RoundTrip.{Below, InTable}
-use Rattle.hatch_encode.proofs.RoundTrip.{length_encode, decodes_encoded, encodes_decoded}
+use Rattle.hatch_encode.proofs.RoundTrip.{length_encode, accepted_below, decodes_encoded, encodes_decoded}
 
 -- ---- the answers
 
@@ -85,7 +86,7 @@ module _ (ps l : List ℕ) (n : ℕ) (count : n ≡ record_count_of ps) {m : ℕ
       ∙ ap (λ (k : ℕ). sets (leaves {E = Refusal} (Ok m) (head_bytes hsl 1 k) l) 7 (joined word_bytes (take (8 * k) ps))) count
       ∙ file_stored ps l m (ap (λ (k : ℕ). size_of version_one_of k (length l)) (sym count) ∙ sym told)
 
--- ---- document 02's two sentences, of a call that answered r and left l'
+-- ---- read back and rewritten, of a call that answered r and left l': the records' bits are ps
 
 module _ (ps l l' : List ℕ) (r : Result ℕ Refusal) (answers : r ≡ write_of ps l) (left : l' ≡ leaves r (encode hsl 1 ps) l) where
   -- the bytes counted are the file
@@ -106,29 +107,25 @@ module _ (ps l l' : List ℕ) (r : Result ℕ Refusal) (answers : r ≡ write_of
       ∙ ap (λ (n : ℕ). accepted 1 n (whole_records ps)) count in
       record { bits = whole_records ps; accepts = plain_into hsl rows (take m l') room 1 (record_count_of records) (whole_records ps) said fits; same = same }
 
-  pub rewrites : Rewritten ps r l l'
+  pub rewrites : (b : List ℕ) → Below 256 b → (v n : ℕ) → decode hsl rows b ≡ accepted v n ps → length b ≤ length l → (r ≡ Ok (length b)) × (l' ≡ written b l)
   unfolding leaves
-  rewrites b small room v n read fits =
-      let e = into_plain hsl rows b room v n ps read in
-      let list = accepts_only b v n ps e in
-      let one : v ≡ 1 = same_version (sym e ∙ accepts b n list) in
+  rewrites b small v n e fits =
+      let t = taken hsl rows b v n ps e in
+      let only = accepts_only hsl b refl (record { row = t.row; count = n }) t.is in
+      let list = only.1 in
+      let one : v ≡ 1 = sym t.version ∙ ap (λ (q : Row). q.version) only.0 in
       let file : encode hsl 1 ps ≡ b = encodes_decoded hsl rows version_one_of refl version_one refl b n ps small (e ∙ ap (λ (k : ℕ). accepted k n ps) one) in
       let size : expected_length version_one_of (record_count_of ps) ≡ length b = sym (length_encode hsl refl 1 ps) ∙ ap length file in
       let told : r ≡ Ok (length b) =
       answers ∙ sym (has_room version_one_of (record_count_of ps) (length l) (omega (arith, size, list.whole, list.few)) (omega (arith, size, fits))) ∙ ap Ok size in
       (told, left ∙ ap (λ (a : Result ℕ Refusal). leaves a (encode hsl 1 ps) l) told ∙ ap (λ (s : List ℕ). written s l) file)
-    where
-      same_version : {m k : ℕ} {qs : List ℕ} → accepted v m ps ≡ accepted 1 k qs → v ≡ 1
-      same_version {m} {k} {qs} x =
-          let c : ◌≡◌ {A = Contents} (record { version = v; count = m; patterns = ps }) (record { version = 1; count = k; patterns = qs }) = cc in
-          ap (λ (y : Contents). y.version) c
 
--- ---- entries, by what is known of a value and the two directions
+-- ---- entries, by what is known of a value and of a pattern, and the two directions
 
 pub count_mapped : {A : Type 0} (f : A → ℕ) (s : List A) → record_count_of (map f s) ≡ record_count_of s
 count_mapped f s = ap (λ (k : ℕ). k / 8) (length-map s f)
 
-module _ {A : Type 0} (Fits : A → Type 0) (of_bits : ℕ → A) (bits_of : A → ℕ) where
+module _ {A : Type 0} (Fits : A → Type 0) (Keeps : ℕ → Type 0) (of_bits : ℕ → A) (bits_of : A → ℕ) where
   bits_fit : ((x : A) → Fits x → bits_of x < 2 ^ 32) → (s : List A) → All Fits s → Below 4294967296 (map bits_of s)
   bits_fit below [] fit k = lit< tt
   bits_fit below (x ∷ s) fit zero = below x (All-head Fits x s fit)
@@ -141,13 +138,27 @@ module _ {A : Type 0} (Fits : A → Type 0) (of_bits : ℕ → A) (bits_of : A �
       ap (λ (y : A). y ∷ map of_bits (take k (map bits_of s))) (kept x (All-head Fits x s fit))
       ∙ ap (λ (t : List A). x ∷ t) (entries_back kept k s (All-tail Fits x s fit))
 
-  -- with the answer and the list as they should be, both sentences hold
-  pub saved : ((x : A) → Fits x → bits_of x < 2 ^ 32) → ((x : A) → Fits x → of_bits (bits_of x) ≡ x) → (s : List A) → All Fits s
+  patterns_back : ((p : ℕ) → p < 2 ^ 32 → Keeps p → bits_of (of_bits p) ≡ p) → (ps : List ℕ) → Below 4294967296 ps → All Keeps ps
+      → map bits_of (map of_bits ps) ≡ ps
+  patterns_back kept [] small fit = refl
+  patterns_back kept (p ∷ ps) small fit =
+      ap (λ (q : ℕ). q ∷ map bits_of (map of_bits ps)) (kept p (small 0) (All-head Keeps p ps fit))
+      ∙ ap (λ (t : List ℕ). p ∷ t) (patterns_back kept ps (λ k. small (suc k)) (All-tail Keeps p ps fit))
+
+  -- with the answer and the list as they should be, the records are read back, and rewritten
+  pub saved : ((x : A) → Fits x → bits_of x < 2 ^ 32) → ((x : A) → Fits x → of_bits (bits_of x) ≡ x)
+      → ((p : ℕ) → p < 2 ^ 32 → Keeps p → bits_of (of_bits p) ≡ p) → (s : List A) → All Fits s
       → (l l' : List ℕ) (a : Result ℕ Refusal) → a ≡ write_of s l → l' ≡ leaves a (encode hsl 1 (map bits_of s)) l
-      → ReadBack of_bits s a l' × Rewritten (map bits_of s) a l l'
-  saved below kept s fit l l' a answers left =
+      → ReadBack of_bits s a l' × Rewritten of_bits Keeps s a l l'
+  saved below kept pattern_kept s fit l l' a answers left =
       let ps = map bits_of s in
       let told : a ≡ write_of ps l = answers ∙ ap (λ (k : ℕ). size_of version_one_of k (length l)) (sym (count_mapped bits_of s)) in
       let again : map of_bits (whole_records ps) ≡ whole_records s =
-      ap (λ (k : ℕ). map of_bits (take (8 * k) ps)) (count_mapped bits_of s) ∙ entries_back kept (8 * record_count_of s) s fit in
-      (reads_back ps l l' a told left of_bits s (bits_fit below s fit) (count_mapped bits_of s) again, rewrites ps l l' a told left)
+      ap (λ (k : ℕ). map of_bits (take (8 * k) ps)) (count_mapped bits_of s) ∙ entries_back kept (8 * record_count_of s) s fit in (
+        reads_back ps l l' a told left of_bits s (bits_fit below s fit) (count_mapped bits_of s) again,
+        λ b small room v n qs read is keeps.
+            let plain = into_plain hsl rows b room v n qs read in
+            let back : map bits_of s ≡ qs =
+            ap (map bits_of) is ∙ patterns_back pattern_kept qs (accepted_below hsl rows b v n qs small plain) keeps in
+            rewrites ps l l' a told left b small v n (plain ∙ ap (accepted v n) (sym back)),
+      )

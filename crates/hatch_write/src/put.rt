@@ -1,5 +1,4 @@
-// The parts of a hatch list, each stored from a byte on.
-// The format names bytes: the place beside a list is the format's, and no count that a caller keeps.
+// The parts of a hatch list, each written to its place in the list. `at` is the byte at which a part begins.
 ghost use Rattle.std.specs.Prelude.{◌≡◌, ◌+◌, ◌*◌, ◌<◌, ◌≤◌, length, map, take};
 ghost use Rattle.std.proofs.lemmas.List.Edits.{sets};
 ghost use Rattle.hatch_encode.specs.Encode.{word_bytes, joined, head_bytes};
@@ -24,8 +23,8 @@ pub(crate) fn put_head(out: &mut [u8], mark: &[u8], version: u16, count: u16)
     put(out, COUNT_AT, &count.to_le_bytes());
 }
 
-// The bits of the entries, one after the other. Each four bytes are a part of the list, by its place: what `chunks_exact_mut` leaves in a list is
-// not known afterwards.
+// Writes the bits of the entries, one after the other. The four bytes of each are taken by their place in the list, since no clause says what a list
+// holds after `chunks_exact_mut`.
 #[tactic(auto, using(crate::proofs::Stored::word_stored), unfolding(hatch_encode::specs::Encode::joined))]
 pub(crate) fn put_entries<E: Entry>(out: &mut [u8], at: usize, entries: &[E])
     requires { at + 4 * length entries.now ≤ length out.old }

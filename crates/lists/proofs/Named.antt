@@ -1,4 +1,4 @@
--- Laws that docs/ names. No proof cites them today; they stand, since a law that a page names stays.
+-- Laws that docs/ names. No proof cites them.
 use mathlib.Core.Path.{◌≡◌, refl, sym, ap, ◌∙◌}
 use mathlib.Core.List.{List, [], ◌∷◌, map}
 use Prim.Native.Nat.{ℕ, ◌+◌, ◌<◌}

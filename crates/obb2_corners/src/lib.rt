@@ -9,8 +9,8 @@ ghost use Rattle.obb2_corners.specs.Corners.{corners_of, upright_corners_of};
 pub use frame::Frame;
 use types::{Aabb2, Obb2, Vec2};
 
-// The plane's four and space's eight corners go by another order and other edges, so each is written out.
-// Centre + u + v, centre - u + v, centre - u - v, centre + u - v: each joined to the next by an edge, and the last to the first.
+// Centre + u + v, centre - u + v, centre - u - v, centre + u - v: each joined to the next by an edge, and the last to the first. Written out, as in
+// space, where the corners stand in another order.
 pub fn corner_points(o: Obb2) -> [Vec2; 4]
     ensures { result ≡ corners_of o }
 {

@@ -6,7 +6,7 @@ use mathlib.Core.List.{◌++◌}
 use Rattle.types.specs.declared.shape.Aabb2.{Aabb2}
 use Rattle.types.specs.declared.shape.Obb2.{Obb2}
 use Rattle.vec2.specs.Values.{dot_of}
-use Rattle.axes.proofs.Disjoint.{meets_no}
+use Rattle.axes.proofs.Disjoint.{meets_no, folded_ranges}
 use Rattle.axes.proofs.Exchanged.{meets_exchanged}
 use Rattle.obb2_corners.specs.Corners.{corners_of, upright_corners_of}
 use Rattle.obb2_intersect.specs.Intersect.{axes_of, upright_axes, is_intersect_aabb2_of, is_intersect_obb2_of}
@@ -22,6 +22,7 @@ aabb2_promised o b r e =
     record {
       answers = e;
       no = rw e (meets_no dot_of (corners_of o) (upright_corners_of b) (upright_axes ++ axes_of o));
+      ranges = folded_ranges dot_of;
     }
 
 pub obb2_promised : (a b : Obb2) (r : Bool) → r ≡ is_intersect_obb2_of a b → IsIntersectObb2Promise a b r
@@ -31,4 +32,5 @@ obb2_promised a b r e =
       answers = e;
       no = rw e (meets_no dot_of (corners_of a) (corners_of b) (axes_of a ++ axes_of b));
       exchanged = e ∙ is_intersect_obb2_exchanged a b;
+      ranges = folded_ranges dot_of;
     }

@@ -18,11 +18,17 @@ use Rattle.pixels.specs.declared.course.Reached.{Reached}
 use Rattle.pixels.specs.declared.course.Course.{Course}
 use Rattle.pixels.specs.declared.limit.Choice.{Choice}
 use Rattle.pixels.specs.declared.limit.Choice.TheVariants.{AtLeast, AtMost, Below}
-use Rattle.pixels.specs.Limit.{test_of, choice_of, Limits}
+use Rattle.pixels.specs.Limit.{at_least, at_most, below, choice_of, Limits}
 use Rattle.pixels.specs.Post.{entered, inside, Entry, Stretch}
 use Rattle.pixels.proofs.Lists.{no_entries}
 use Rattle.pixels.proofs.Limits.{Within, within_at, falls_limits, grows_limits, side_limits}
 use Rattle.pixels.proofs.Running.{running_none}
+
+-- what a choice tests
+unfoldable pub test_of : Choice → Float → Bool
+test_of (AtLeast limit) x = at_least limit x
+test_of (AtMost limit) x = at_most limit x
+test_of (Below limit) x = below limit x
 
 -- ---- one coordinate, on a side of n pixels
 

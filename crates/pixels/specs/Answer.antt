@@ -1,4 +1,4 @@
--- What the two walks answer, the refusals of documents 01 and 02 among it. Definitions only.
+-- What the two walks answer: how many entries, or a refusal. Definitions only.
 use Rattle.std.specs.Prelude.{ℕ, Bool, true, false, Result}
 use Rattle.types.specs.declared.shape.Vec2.{Vec2}
 use Rattle.types.specs.declared.refusal.Refusal.TheVariants.{Room}

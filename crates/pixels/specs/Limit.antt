@@ -9,6 +9,7 @@ use Rattle.stroke.specs.Image.{on_side_of}
 use Rattle.pixels.specs.declared.limit.Choice.{Choice}
 use Rattle.pixels.specs.declared.limit.Choice.TheVariants.{AtLeast, AtMost, Below}
 
+-- the three tests
 unfoldable pub at_least : Float → Float → Bool
 at_least limit x = le limit x
 
@@ -18,13 +19,7 @@ at_most limit x = le x limit
 unfoldable pub below : Float → Float → Bool
 below limit x = lt x limit
 
--- what a choice tests
-unfoldable pub test_of : Choice → Float → Bool
-test_of (AtLeast limit) x = at_least limit x
-test_of (AtMost limit) x = at_most limit x
-test_of (Below limit) x = below limit x
-
--- as the code chooses: by the coordinate's direction, and by which of its range and the side ends first. What the choice is worth is `Limits`
+-- As the code chooses: by the coordinate's direction, and by which of its range and the side ends first. `Limits` says what the chosen test is worth.
 unfoldable pub choice_of : Axis → Float → Choice
 choice_of a side = cond (lt a.slope +0) (AtLeast (greater_of a.low +0)) (cond (lt a.high side) (AtMost a.high) (Below side))
 
@@ -33,6 +28,6 @@ pub record Limits (test : Float → Bool) (a : Axis) (side : Float) (k : ℕ) : 
   pub allows_is : (i : ℕ) → k ≤ i → i ≤ most_steps → test (at a i) ≡ within a (at a i) && on_side_of side (at a i)
   pub stays : (i : ℕ) → k ≤ i → suc i ≤ most_steps → test (at a i) ≡ false → test (at a (suc i)) ≡ false
 
--- no number within the range is on the side
+-- if so, no number of the range is on the side
 unfoldable pub misses_of : Axis → Float → Bool
 misses_of a side = lt a.high +0 || le side a.low

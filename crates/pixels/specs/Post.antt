@@ -15,7 +15,7 @@ use Rattle.pixels.specs.Entries.{pixels}
 
 -- ---- what is asked
 
--- a position of an accepted walk: 65,536 and 131,074 steps of one at most
+-- a position of an accepted walk: no coordinate is above 196,610 in size, which is 65,536 and 131,074 steps of one
 pub record Bounded (p : Vec2) : Type 0 where
   pub x_size : Size 196610 p.x
   pub y_size : Size 196610 p.y
@@ -42,11 +42,12 @@ pub record Entry (w h : ℕ) (a b : Axis) (r : Reached) : Type 0 where
   pub none : r.count ≡ 0
   pub empty : inside w h a b r.steps ≡ false → entered w h a b (exit a b) ≡ []
 
+-- the list l with the entries at its start, if they are written
 abbrev pub written_if : Bool → List ℕ → List ℕ → List ℕ
 written_if true es l = written es l
 written_if false es l = l
 
--- The list l was lent, and is l' afterwards. Where the walk is still inside, there was no room for more entries, and else it has them all.
+-- The list l was lent, and is l' afterwards. Where the walk is still inside, there was no room for more entries. Where it is not, it has them all.
 pub record Stretch (write : Bool) (w h : ℕ) (a b : Axis) (room : ℕ) (r : Reached) (l l' : List ℕ) : Type 0 where
   pub reached : At w h a b r
   pub list_is : l' ≡ written_if write (entered w h a b r.steps) l

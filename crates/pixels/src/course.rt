@@ -6,11 +6,15 @@ ghost use Rattle.stroke.proofs.Paces.{paced_prop};
 ghost use Rattle.pixels.specs.Limit.{misses_of};
 ghost use Rattle.pixels.specs.Post.{Entry};
 
-use stroke::{Accepted, Axis, Image, MOST_STEPS, Walk};
+use stroke::{Accepted, Axis, Image, Walk};
 use types::Vec2;
 
-// Where a walk has come to: how many entries were made, and the position after so many steps. The two numbers differ by the steps that the walk
-// took before it came into the image.
+// No walk of an accepted stroke takes more steps, so this bound decides nothing where arithmetic is IEEE 754's. On a processor set to flush
+// subnormals a slope may be 0 / 0, and then it is what ends the walk.
+pub(crate) const MOST_STEPS: usize = 131_074;
+
+// Where a walk has come to: how many entries were made, how many steps were taken, and the position after them. The two numbers differ by the steps
+// that the walk took before it came into the image.
 #[derive(Clone, Copy, Debug, PartialEq)]
 pub(crate) struct Reached {
     pub(crate) count: usize,
@@ -18,7 +22,7 @@ pub(crate) struct Reached {
     pub(crate) position: Vec2,
 }
 
-// The walk of an accepted stroke, where it first comes into the image.
+// The walk of an accepted stroke, and where it first comes into the image.
 #[derive(Clone, Copy, Debug, PartialEq)]
 pub(crate) struct Course {
     pub(crate) image: Image,
@@ -28,14 +32,15 @@ pub(crate) struct Course {
     ghost entry: { Entry image.width image.height walk.x walk.y first } by { Prim.hlevel props },
 }
 
-// No number within the coordinate's range is on the side.
+// If so, no number of the coordinate's range is on the side.
 fn misses(axis: Axis, side: f32) -> bool
     ensures { result ≡ misses_of axis side }
 {
     axis.high < 0.0 || axis.low >= side
 }
 
-// The first position in the image. If there is none, the first of all where the ranges tell so, and else the one at which the walk left them.
+// The first position in the image. Where there is none, it is the first position of all if the ranges tell so, and else the one at which the walk
+// leaves them.
 fn entry(image: Image, walk: Walk) -> Reached
     ensures { Entry image.width image.height walk.x walk.y result }
 {
@@ -47,8 +52,8 @@ fn entry(image: Image, walk: Walk) -> Reached
             position,
         };
     }
-    // The loop runs over numbers, since it counts steps: the positions stand in no list. Three loops walk so, this one, `leave` and `Walk::exit`: each
-    // ends by another test and answers something else, and a closure for the test would need clauses of its own.
+    // The loop runs over numbers, since it counts steps: the positions stand in no list. `leave` walks so too. Each of the two ends by another test
+    // and answers something else, and a closure for the test would need clauses of its own.
     for steps in 0..MOST_STEPS {
         if !walk.spans(position) || image.contains(position) {
             return Reached {

@@ -1,4 +1,4 @@
-// The pixels that a stroke passes, by a walk from its first end in steps of at most one pixel.
+// The pixels along a stroke: a walk starts at its first end, adds at most a pixel to x and to y in each step, and numbers the positions in an image.
 #![tactic(auto, unfolding(crate::specs::Entries::number, crate::specs::Limit::at_least, crate::specs::Limit::at_most, crate::specs::Limit::below, crate::specs::Limit::choice_of, crate::specs::Limit::misses_of))]
 
 mod course;

@@ -1,5 +1,5 @@
-// A coordinate only grows or only falls. So once a position is in the image and in the ranges of the stroke's ends, one comparison tells
-// whether the coordinate stays in both, and there are three: by its direction, and by which of the two ends first.
+// A coordinate never turns back. So once a position is in the image and in the ranges of the stroke's ends, one comparison tells whether the
+// coordinate stays in both. There are three: which one it is follows from the coordinate's direction, and from which of the two ends first.
 // A NaN passes none: on a processor set to flush subnormals a slope may be 0 / 0, and then the stretch ends.
 ghost use Rattle.std.specs.Prelude.{◌≡◌, Bool, Float};
 ghost use Rattle.pixels.specs.Limit.{at_least, at_most, below, choice_of};
@@ -46,7 +46,7 @@ impl Limit for Below {
     }
 }
 
-// Which of the three is chosen, and its number.
+// Which of the three is chosen, and the number with which it compares.
 #[derive(Clone, Copy, Debug, PartialEq)]
 pub(crate) enum Choice {
     AtLeast(f32),
@@ -54,8 +54,8 @@ pub(crate) enum Choice {
     Below(f32),
 }
 
-// A coordinate that falls stays until its range's low end or 0, and one that grows until its range's high end or the side. stretch.rt makes each
-// choice a type, once for the columns and once for the rows: so its loop is compiled for each pair of limits, with no test of a choice in it.
+// A coordinate that falls stays until its range's low end or 0. Any other stays until its range's high end or the side. stretch.rt makes each choice
+// a type, once for the columns and once for the rows: so its loop is compiled for each pair of limits, with no test of a choice in it.
 pub(crate) fn choose(axis: Axis, side: f32) -> Choice
     ensures { result ≡ choice_of axis side }
 {

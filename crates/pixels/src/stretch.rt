@@ -1,5 +1,5 @@
-// The positions of a walk that lie in the image: they are one stretch of it, since each coordinate only grows or only falls.
-// Its loops run over numbers: they count entries up to a room, where there may be no list to go over, or steps.
+// The positions of a walk that lie in the image. They follow one another, since no coordinate turns back: together they are the stretch.
+// The loops run over numbers: they count entries up to a room, where there may be no list to go over, or steps.
 ghost use Rattle.std.specs.Prelude.{◌≡◌, ◌≤◌, ◌&&◌, true, cond, length, nat_le, pos};
 ghost use Rattle.std.specs.Float.{binary32};
 ghost use Rattle.std.specs.Float.Ieee.{lt, of_int};
@@ -9,13 +9,12 @@ ghost use Rattle.stroke.specs.Walk.{position, in_ranges_of, exit};
 ghost use Rattle.pixels.specs.Limit.{Limits};
 ghost use Rattle.pixels.specs.Post.{entered, inside, Stretch};
 
-use crate::course::{Course, Reached};
+use crate::course::{Course, MOST_STEPS, Reached};
 use crate::limit::{AtLeast, AtMost, Below, Choice, Limit, choose};
 use crate::number::pixel_inside;
-use stroke::MOST_STEPS;
 use types::Vec2;
 
-// The position is still in the stretch.
+// Whether the position is still in the stretch.
 fn allow<X: Limit, Y: Limit>(x: X, y: Y, p: Vec2) -> bool
     ensures { result ≡ X.test x p.x && Y.test y p.y }
 {
@@ -25,14 +24,14 @@ fn allow<X: Limit, Y: Limit>(x: X, y: Y, p: Vec2) -> bool
 // A stretch takes no more than `room` entries. They are written to `list` if `WRITE`, and else only counted.
 // A count has no list, so `room` stands beside it: a trait with a counter and a list as its two kinds is no plainer.
 impl Course {
-    // The walk goes on at p, which lies in the image.
+    // Whether the walk goes on at p and p lies in the image.
     fn is_inside(self, p: Vec2) -> bool
         ensures { result ≡ in_ranges_of self.walk.x self.walk.y p && on_image self.image.width self.image.height p }
     {
         self.walk.spans(p) && self.image.contains(p)
     }
 
-    // The stretch from its first position on, for two limits.
+    // The stretch from its first position on, by the two coordinates' limits.
     fn run<const WRITE: bool, X: Limit, Y: Limit>(
         self,
         list: &mut [u32],
@@ -66,7 +65,7 @@ impl Course {
         }
     }
 
-    // The same for one limit, and the other one chosen for the rows.
+    // The same with the limit of the rows chosen here.
     fn along_rows<const WRITE: bool, X: Limit>(self, list: &mut [u32], room: usize, x: X) -> Reached
         requires room { WRITE ≡ true → room ≤ length list.old }
         requires lies { inside self.image.width self.image.height self.walk.x self.walk.y self.first.steps ≡ true }
@@ -80,7 +79,7 @@ impl Course {
         }
     }
 
-    // The stretch from its first position on.
+    // The same with both limits chosen.
     pub(crate) fn stretch<const WRITE: bool>(self, list: &mut [u32], room: usize) -> Reached
         requires room { WRITE ≡ true → room ≤ length list.old }
         ensures { Stretch WRITE self.image.width self.image.height self.walk.x self.walk.y room result list.old list.new }

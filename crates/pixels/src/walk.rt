@@ -4,7 +4,7 @@ ghost use Rattle.std.specs.Prelude.{◌+◌, ◌≤◌, true, false, length, Ok}
 ghost use Rattle.stroke.specs.Image.{one_if_of};
 ghost use Rattle.stroke.specs.Walk.{exit};
 ghost use Rattle.pixels.specs.Entries.{entries};
-ghost use Rattle.pixels.specs.Promise.{Promise};
+ghost use Rattle.pixels.specs.Promise.{WalkPromise};
 ghost use Rattle.pixels.specs.Post.{entered, Listing};
 
 use crate::course::Course;
@@ -13,7 +13,8 @@ use stroke::Accepted;
 use types::{Refusal, RefusalAt, Vec2};
 
 impl Course {
-    // The entries, for which the list has room. Each store is guarded by the list's length besides, whatever the processor's state.
+    // Writes the entries, for which the list has room, and answers how many. No store lies beyond the list, whatever the processor's state: the stretch
+    // counts no further than its room.
     fn fill<const CLOSING: bool>(self, list: &mut [u32]) -> usize
         requires { length (entered self.image.width self.image.height self.walk.x self.walk.y (exit self.walk.x self.walk.y)) + one_if_of CLOSING ≤ length list.old }
         ensures { Listing (entries CLOSING self.image.width self.image.height self.walk.x self.walk.y) list.old (Ok result) list.new }
@@ -31,7 +32,7 @@ impl Course {
 
 // The walk of a stroke that is accepted. A list that is surely long enough needs no count.
 fn draw<const CLOSING: bool>(stroke: Accepted, list: &mut [u32]) -> Result<usize, RefusalAt>
-    ensures { Promise CLOSING stroke.image.width stroke.image.height stroke.p0 stroke.p1 list.old result list.new }
+    ensures { WalkPromise CLOSING stroke.image.width stroke.image.height stroke.p0 stroke.p1 list.old result list.new }
 {
     let course = Course::new(stroke);
     let more = CLOSING as usize;
@@ -52,14 +53,14 @@ fn walk<const CLOSING: bool>(
     p1: Vec2,
     list: &mut [u32],
 ) -> Result<usize, RefusalAt>
-    ensures { Promise CLOSING width height p0 p1 list.old result list.new }
+    ensures { WalkPromise CLOSING width height p0 p1 list.old result list.new }
 {
     let stroke = Accepted::new(width, height, p0, p1)?;
     draw::<CLOSING>(stroke, list)
 }
 
-// The pixels that the stroke from p0 to p1 passes, into the first entries of `list`, and how many. The last one is a closing entry,
-// made from the position at which the walk left the ends' ranges.
+// Writes the entries of the stroke from p0 to p1 to the start of `list`, and answers how many: the pixel of each position that lies in the image, and
+// last a closing entry, of the position at which the walk left the ends' ranges.
 pub fn overlapping_pixels_dda(
     width: usize,
     height: usize,
@@ -67,7 +68,7 @@ pub fn overlapping_pixels_dda(
     p1: Vec2,
     list: &mut [u32],
 ) -> Result<usize, RefusalAt>
-    ensures { Promise true width height p0 p1 list.old result list.new }
+    ensures { WalkPromise true width height p0 p1 list.old result list.new }
 {
     walk::<true>(width, height, p0, p1, list)
 }
@@ -80,7 +81,7 @@ pub fn pixels_inside(
     p1: Vec2,
     list: &mut [u32],
 ) -> Result<usize, RefusalAt>
-    ensures { Promise false width height p0 p1 list.old result list.new }
+    ensures { WalkPromise false width height p0 p1 list.old result list.new }
 {
     walk::<false>(width, height, p0, p1, list)
 }

@@ -20,6 +20,7 @@ use Rattle.hatch_format.specs.declared.header.Head.{Head}
 use Rattle.std.specs.Prelude.{Result, Ok, Err}
 use Rattle.types.specs.Refusal.{number_of}
 use Rattle.types.specs.declared.refusal.RefusalAt.{RefusalAt}
+use Rattle.report.specs.declared.TheConstants.{REPORT_MAX}
 use Rattle.report.specs.Report.{clip_at, field_of, end_of, line_of, lines_of, opening_of, refusal_of, text_of, report_of}
 
 end_length : (x : Float) → length (end_of x) ≡ 9
@@ -56,7 +57,7 @@ lines_length fs (suc n) h =
       lines_length fs n (omega arith),
     )
 
-text_length : (a : Answer) → Bounded a → length (text_of a) ≤ 54014
+text_length : (a : Answer) → Bounded a → length (text_of a) ≤ REPORT_MAX
 unfolding Bounded text_of opening_of refusal_of
 text_length (Err at) s =
     omega (
@@ -80,7 +81,7 @@ text_length (Ok c) s =
 
 -- a page on which the report was put, first of all: l is the list lent, and l' what it holds then
 module _ (b l l' : List ℕ) (size : ℕ) (short : length l ≤ 0xffff_ffff_ffff_ffff) (text : page l' size ≡ puts (page l 0) (report_of b)) where
-  few : length (report_of b) ≤ 54014
+  few : length (report_of b) ≤ REPORT_MAX
   unfolding report_of
   few = text_length (decode hsl rows b) (bounded b)
 
@@ -93,7 +94,7 @@ module _ (b l l' : List ℕ) (size : ℕ) (short : length l ≤ 0xffff_ffff_ffff
   pub list_is : l' ≡ written (take (length l) (report_of b)) l
   list_is = ap (λ (p : Page). p.bytes) all
 
-  pub size_below : size ≤ 54014
+  pub size_below : size ≤ REPORT_MAX
   size_below = omega (arith, size_is, few)
 
 -- r is the answer of the call that gives the header, and a match has found what r is

@@ -1,5 +1,5 @@
--- Small files and what is printed of each: document 01's example and its falling twin, the sign of a zero, a NaN, and refusals.
--- Definitions only.
+-- Small files and what is printed of each: a line that hits and one that misses, rising and falling, the sign of a zero, a NaN, no record, and
+-- refusals. Definitions only.
 use Rattle.std.specs.Prelude.{◌≡◌, List, [], ◌∷◌, ◌++◌, map, ℕ, ◌/◌, ◌%◌}
 use Rattle.hatch_format.specs.Format.{hsl}
 use Rattle.text.specs.Ascii.{ascii}
@@ -31,7 +31,7 @@ examples =
           ++ (box ++ float 0x40c0_0000 ++ float 0xbf80_0000 ++ float 0x3f80_0000 ++ float 0x3f80_0000);
       printed = ascii "HSL 1 2\n1 hit 40000000 40400000\n2 miss\n";
     }
-    -- its falling twin, mirrored in the line y = 1: point 6 3, direction -1 -1; then direction 1 -1
+    -- the same with both lines mirrored in y = 1: point 6 3, direction -1 -1; then direction 1 -1
     ∷ record {
       bytes =
           head 2

@@ -1,4 +1,4 @@
--- What is printed of a hatch list. Definitions only.
+-- The report on a hatch list, as the bytes of a text in ASCII. Definitions only.
 use Rattle.std.specs.Prelude.{cond, List, [], ◌++◌, map, ℕ, zero, suc, ◌+◌, ◌*◌, get_or, Float, Ok, Err}
 use Rattle.std.specs.Float.{nan, binary32}
 use Rattle.std.specs.Float.Ieee.{eq, to_bits}
@@ -41,14 +41,14 @@ field_of n = ascii " " ++ decimal n
 unfoldable pub end_of : Float → List ℕ
 end_of x = ascii " " ++ hex8 (shown x)
 
--- the line of a record, from its place and its interval
+-- the line of text on a record, from its place and its interval
 unfoldable pub line_of : ℕ → Interval → List ℕ
 line_of place Miss = decimal place ++ ascii " miss\n"
 line_of place (Hit tmin tmax) = decimal place ++ (ascii " hit" ++ (end_of tmin ++ (end_of tmax ++ ascii "\n")))
 
 -- ---- the whole text
 
--- the lines of the first n records, places from 1
+-- the lines of text on the first n records; the first has place 1
 unfoldable pub lines_of : List Float → ℕ → List ℕ
 lines_of fs zero = []
 lines_of fs (suc k) = lines_of fs k ++ line_of (k + 1) (clip_at fs k)

@@ -1,19 +1,26 @@
-// The report on a hatch list, as text: each record clipped as a line, or the number of a refusal and its byte. It is not put by `write!`: that
-// answers a `Result`, which each caller would have to drop, since a page refuses nothing.
+// The report on a hatch list, as text: what the clip of each record's line gives, or the number of a refusal and its byte. `write!` would answer a
+// `Result`, which every caller would drop, since a page refuses nothing.
 #![tactic(auto)]
 
 ghost use Rattle.std.specs.Prelude.{◌≡◌, map, ◌≤◌, length, take};
 ghost use Rattle.lists.specs.Lent.{written};
 ghost use Rattle.hatch_format.specs.Decode.{float_of, patterns_of, Holds};
 ghost use Rattle.text.specs.Page.{Adds};
+ghost use Rattle.report.specs.Prefix.{ReportsOnFile};
 ghost use Rattle.report.specs.Report.{shown, field_of, end_of, line_of, lines_of, opening_of, refusal_of, report_of};
 
 use bits::Entry;
-use hatch_format::{HSL, Head, RECORDS_AT};
+use hatch_format::{BYTES_MAX, HSL, Head, RECORDS_AT};
 use hatch_read::Record;
 use slabs::Interval;
 use text::Page;
 use types::RefusalAt;
+
+// A file's report is decided by so many of its first bytes. They are one more than the longest file has, since a longer file is refused.
+pub const PREFIX: usize = BYTES_MAX + 1;
+
+// No report is longer: its first line has at most 14 bytes, and the line of each of at most 2,000 records has at most 27.
+pub const REPORT_MAX: usize = 54014;
 
 // A space, and a number in decimal.
 fn put_field(page: &mut Page<'_>, n: usize)
@@ -39,7 +46,7 @@ fn put_end(page: &mut Page<'_>, x: f32)
     page.put_hex8(shown_bits(x));
 }
 
-// The line of a record, from its place and what is left of its line.
+// The line of text on a record, from its place and the stretch of its line in its box.
 fn put_line(page: &mut Page<'_>, place: usize, t: Interval)
     ensures { Adds page.old (line_of place t) page.new }
 {
@@ -55,7 +62,7 @@ fn put_line(page: &mut Page<'_>, place: usize, t: Interval)
     }
 }
 
-// The lines of all records, places from 1.
+// The lines of text on all records. The first has place 1.
 #[tactic(auto, using(hatch_format::proofs::Records::left_none))]
 fn put_lines(page: &mut Page<'_>, bytes: &[u8], head: Head)
     requires { Holds head.row.width head.count bytes.now }
@@ -98,11 +105,12 @@ fn put_report(page: &mut Page<'_>, bytes: &[u8])
     }
 }
 
-// Writes the report on a hatch list to the start of `out`, as far as it has room, and answers the length of the whole report.
+// Writes the report on a hatch list to the start of `out`, as much of it as there is room for, and answers the length of the whole report.
 pub fn report(bytes: &[u8], out: &mut [u8]) -> usize
-    ensures value { result ≡ length (report_of bytes.now) }
-    ensures out_after { out.new ≡ written (take (length out.old) (report_of bytes.now)) out.old }
-    ensures upper_bound { result ≤ 54014 }
+    ensures answers { result ≡ length (report_of bytes.now) }
+    ensures leaves { out.new ≡ written (take (length out.old) (report_of bytes.now)) out.old }
+    ensures fits { result ≤ REPORT_MAX }
+    ensures means { ReportsOnFile bytes.now result out.old out.new }
 {
     let mut page = Page::new(out);
     put_report(&mut page, bytes);

@@ -38,9 +38,9 @@ exact_root {w} x f p e =
 -- the contract, of `sqrt_of x` with a count that is `Worked`
 module _ {r : Float} {d : ℕ} (x : Float) (f : T (fits binary32 x)) (is : r ≡ sqrt_of x)
     (worked : T (positive x) → Worked (radicand x) (in_units r) d) (none : positive x ≡ false → d ≡ 0) where
-  value : d ≡ sqrt_digits_of x
+  counted : d ≡ sqrt_digits_of x
   unfolding sqrt_digits_of
-  value = go (positive x) refl
+  counted = go (positive x) refl
     where
       go : (above : Bool) → positive x ≡ above → d ≡ cond above (digits_of (radicand x) (in_units (sqrt_of x))) 0
       go true e = sym (rw (← is) (worked_value (worked (passes _ e))))
@@ -60,7 +60,7 @@ module _ {r : Float} {d : ℕ} (x : Float) (f : T (fits binary32 x)) (is : r ≡
 
   pub digits_worked : DigitsWorked x r d
   digits_worked = record {
-    value = value;
+    answers = counted;
     returned = λ above p q e. (root above p q e).1;
     exact = exact;
     few = λ above p q e. exact_few (radicand_representable x f above) (root above p q e).0 (exact above p q e);

@@ -41,7 +41,7 @@ nearest_is_one x r s a b =
 -- the contract, for whatever is `sqrt_of x`
 pub square_root : (x r : Float) → T (fits binary32 x) → r ≡ sqrt_of x → SquareRoot x r
 square_root x r f is = record {
-  value = is;
+  answers = is;
   nearest = nearest;
   only = λ p q n. nearest_is_one x q r n (nearest p);
   zero = λ s e. is ∙ ap sqrt_of e ∙ sqrt_of_zero s;

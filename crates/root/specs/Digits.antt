@@ -38,7 +38,7 @@ ExactRoot x p q = (0 < q) × (p * p ≡ radicand x * (q * q))
 
 -- d digits of √x are worked, and r is √x where that is exact
 pub record DigitsWorked (x r : Float) (d : ℕ) : Type 0 where
-  pub value : d ≡ sqrt_digits_of x
+  pub answers : d ≡ sqrt_digits_of x
   -- √x is exactly p / q units: so is r, d counts the digits of r up to the last 1, and these are never more than 12
   pub returned : T (positive x) → (p q : ℕ) → ExactRoot x p q → in_units r * q ≡ p
   pub exact : T (positive x) → (p q : ℕ) → ExactRoot x p q → HasDigits (in_units r) d

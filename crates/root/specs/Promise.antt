@@ -10,7 +10,7 @@ use Rattle.root.specs.Nearest.{IsNearest}
 
 -- r is the square root of the f32 x
 pub record SquareRoot (x r : Float) : Type 0 where
-  pub value : r ≡ sqrt_of x
+  pub answers : r ≡ sqrt_of x
   -- finite and above zero: r is the f32 nearest to √x, and nothing else is
   pub nearest : T (positive x) → IsNearest x r
   pub only : T (positive x) → (q : Float) → IsNearest x q → q ≡ r

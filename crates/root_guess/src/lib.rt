@@ -57,8 +57,8 @@ fn root_bits(bits: u32) -> Option<u32>
 }
 
 // The square root, as `root::sqrt` gives it: a guess by Newton's method, taken where whole-number squares confirm it. Where they do not, and where
-// the number is not a normal one above zero, the root's digits are worked. Both stay: a root whose digits are worked one by one is asked for, and
-// lengths that must be fast take this one.
+// the number is not a normal one above zero, the root's digits are worked. Both stay: the other works the digits one by one and ends where the root
+// is exact, and lengths that must be fast take this one.
 #[tactic(auto, using(crate::proofs::Confirmed::root_of_bits, root::proofs::Patterns::not_nan_bits))]
 pub fn sqrt(x: f32) -> f32
     ensures { result ≡ sqrt_of x }

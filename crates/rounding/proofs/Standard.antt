@@ -128,7 +128,7 @@ module _ (Toward : Float → Float → Type 0) (value_of : Float → Float) (x :
       → ((r q : Float) → T (fits binary32 r) → T (fits binary32 q) → Toward x r → Toward x q → r ≡ q)
       → (T (not (finite x)) → value_of x ≡ x) → (r : Float) → r ≡ value_of x → RoundsToIntegral Toward value_of x r
   rounds_to f rounds only kept r is = rw is record {
-    value = refl;
+    answers = refl;
     rounds = rounds;
     only = λ h q g t. only q (value_of x) g f t (rounds h);
     kept = kept;

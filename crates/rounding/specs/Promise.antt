@@ -6,7 +6,7 @@ use Rattle.std.specs.Float.Ieee.Scale.{finite}
 
 -- r is the f32 x rounded in the direction that `Toward` says, with the value that `value_of` works out
 pub record RoundsToIntegral (Toward : Float → Float → Type 0) (value_of : Float → Float) (x r : Float) : Type 0 where
-  pub value : r ≡ value_of x
+  pub answers : r ≡ value_of x
   -- of a finite number r is what the standard asks for, and no other f32 is
   pub rounds : T (finite x) → Toward x r
   pub only : T (finite x) → (q : Float) → T (fits binary32 q) → Toward x q → q ≡ r

@@ -15,7 +15,7 @@ use Rattle.slabs.specs.declared.Slab.{Slab}
 use Rattle.slabs.specs.declared.Interval.{Interval}
 use Rattle.slabs.specs.declared.Interval.TheVariants.{Miss, Hit}
 use Rattle.slabs.specs.Clip.{lowest, largest, entry_of, exit_of, crosses, outside, narrowed_of, narrow_all, ordered_of, clip_over, ahead_of}
-use Rattle.slabs.specs.Promise.{IsBeside, IsNotBeside, entries, exits, IsHighest, IsLowest, IsPast, IsLineAnswer, IsRayAnswer, HitOrMiss, IsWithin, Narrows}
+use Rattle.slabs.specs.Promise.{IsBeside, IsNotBeside, entries, exits, IsHighest, IsLowest, IsPast, IsLineAnswer, IsRayAnswer, HitOrMiss, IsWithin, Narrows, AnswerLaws}
 use Rattle.float.proofs.Folds.{contains_head, contains_tail, contains_cases, fold_min_first, fold_max_first, fold_min_number, fold_max_number}
 
 -- ---- the fold over the slabs, as folds over their entries and exits
@@ -228,3 +228,6 @@ module _ (ss ts : List Slab) (sub : (s : Slab) → Contains ss s → Contains ts
 
 pub narrows : Narrows
 narrows ss ts sub = narrower ss ts sub
+
+pub answer_laws : AnswerLaws
+answer_laws = record { hit_or_miss = hit_or_miss; narrows = narrows }

@@ -34,7 +34,7 @@ IsHighest xs m = Contains xs m × All (λ x. lt m x ≡ false) xs
 abbrev pub IsLowest : List Float → Float → Type 0
 IsLowest xs m = Contains xs m × All (λ x. lt x m ≡ false) xs
 
--- the line goes along no slab outside of it, and is in all of them from tmin to tmax
+-- The line goes along no slab outside of it, and is in all of them from tmin to tmax.
 pub record IsThrough (ss : List Slab) (tmin tmax : Float) : Type 0 where
   pub inside : All IsNotBeside ss
   pub last_entry : IsHighest (entries ss) tmin
@@ -43,8 +43,8 @@ pub record IsThrough (ss : List Slab) (tmin tmax : Float) : Type 0 where
   pub finite_entry : IsTrue (finite tmin)
   pub finite_exit : IsTrue (finite tmax)
 
--- It goes along one outside of it, or out of one before it comes into another. The lowest and the largest finite number count as an entry and an
--- exit: so a line is past too if it comes into a slab, or goes out of one, only at a parameter beyond the finite numbers.
+-- The line goes along a slab outside of it, or out of one before it comes into another. The lowest finite number is among the entries and the largest
+-- among the exits. So a line is past too if it comes into a slab only above the finite numbers, or goes out of one already below them.
 abbrev pub IsPast : List Slab → Type 0
 IsPast ss = Any IsBeside ss ⊎ Any (λ x. Any (λ y. y <ᶠ x) (exits ss)) (entries ss)
 
@@ -54,7 +54,7 @@ abbrev pub IsLineAnswer : List Slab → Interval → Type 0
 IsLineAnswer ss Miss = IsPast ss
 IsLineAnswer ss (Hit tmin tmax) = IsThrough ss tmin tmax
 
--- a ray's line is in the slabs up to 0 at least; where it comes in does not matter
+-- A ray hits if its line is in the slabs up to 0 at least. Where the line comes in does not matter.
 abbrev pub IsRayAnswer : List Slab → Interval → Type 0
 IsRayAnswer ss Miss = IsPast ss ⊎ Any (λ y. y <ᶠ +0) (exits ss)
 IsRayAnswer ss (Hit tmin tmax) = IsThrough ss tmin tmax × (+0 ≤ᶠ tmax)
@@ -76,3 +76,8 @@ abbrev pub Narrows : Type 0
 Narrows =
     (ss ts : List Slab) → ((s : Slab) → Contains ss s → Contains ts s) →
     (i j : Interval) → IsLineAnswer ss i → IsLineAnswer ts j → IsWithin j i
+
+-- the laws of any answers
+pub record AnswerLaws : Type 0 where
+  pub hit_or_miss : HitOrMiss
+  pub narrows : Narrows

@@ -3,12 +3,13 @@
 
 ghost use Rattle.std.specs.Prelude.{◌≡◌};
 ghost use Rattle.slabs.specs.Clip.{outside, all_finite_of, narrowed_of, ordered_of, ahead_of, clip_over};
-ghost use Rattle.slabs.specs.Promise.{IsLineAnswer, IsRayAnswer};
+ghost use Rattle.slabs.specs.Promise.{IsLineAnswer, IsRayAnswer, AnswerLaws};
 ghost use Rattle.slabs.specs.Inside.{within_of};
 
 use types::Range;
 
-// The stretch of a line or a ray inside a box, by the parameter at which it enters and leaves. An enum of its own: that form is asked for.
+// The stretch of a line or a ray inside a box, by the parameters at which it enters and leaves. An enum of its own and no `Option`, so that a miss
+// and both ends have names.
 #[derive(Clone, Copy, Debug, PartialEq)]
 pub enum Interval {
     Miss,
@@ -97,10 +98,12 @@ impl Interval {
     }
 }
 
-// The stretch of a line inside the box whose dimensions the slabs are.
+// The stretch of a line inside the box whose dimensions the slabs are. The last clause is of any answers: what a miss means rules out every hit, and
+// more slabs leave no more of a line.
 pub fn clip<const N: usize>(slabs: &[Slab; N]) -> Interval
     ensures answers { result ≡ clip_over slabs.now }
     ensures means { IsLineAnswer slabs.now result }
+    ensures laws { AnswerLaws }
 {
     let mut interval = Interval::all_finite();
     for s in slabs {

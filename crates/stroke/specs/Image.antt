@@ -17,7 +17,7 @@ in_sides_of wide high p = on_side_of wide p.x && on_side_of high p.y
 abbrev pub on_image : ℕ → ℕ → Vec2 → Bool
 on_image w h p = in_sides_of (of_int binary32 (pos w)) (of_int binary32 (pos h)) p
 
--- how many positions a test lets in
+-- 1 if so, and else 0
 abbrev pub one_if_of : Bool → ℕ
 one_if_of true = 1
 one_if_of false = 0

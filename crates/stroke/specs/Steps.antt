@@ -8,6 +8,7 @@ use Rattle.rounded.specs.Size.{Size}
 use Rattle.stroke.specs.declared.axis.Axis.{Axis}
 use Rattle.stroke.specs.Stops.{Stops}
 
+-- where a walk starts
 abbrev pub first : Axis → Axis → Vec2
 first a b = record { x = a.start; y = b.start }
 
@@ -15,7 +16,8 @@ first a b = record { x = a.start; y = b.start }
 abbrev pub next : Axis → Axis → Vec2 → Vec2
 next a b p = record { x = p.x ⊕ a.slope; y = p.y ⊕ b.slope }
 
--- an axis of an accepted stroke: it starts at a coordinate of at most 65,536 in size, and steps by one at most
+-- An axis of an accepted stroke: it starts at a coordinate of at most 65,536 in size, and steps by one at most. The ends of its range are
+-- at most 65,537 in size.
 pub record Sized (a : Axis) : Type 0 where
   pub start_size : Size 65536 a.start
   pub slope_size : Size 1 a.slope

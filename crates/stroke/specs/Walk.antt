@@ -27,7 +27,7 @@ unfoldable pub at : Axis → ℕ → Float
 at a zero = a.start
 at a (suc k) = at a k ⊕ a.slope
 
--- within the widened range: neither below `low` nor above `high`
+-- within the widened range: neither below `low` nor above `high`. A NaN is within
 unfoldable pub within : Axis → Float → Bool
 within a x = not (lt x a.low || lt a.high x)
 

@@ -21,7 +21,7 @@ impl Accepted {
     ghost use Rattle.stroke.specs.Walk.{along_x, along_y};
     ghost use Rattle.stroke.specs.Steps.{Paced};
 
-    // The stroke, or the refusal of the first test that it does not pass. C hands the sides and the ends so, each by itself.
+    // The stroke, or the refusal of the first test that it does not pass. The sides and the ends stand by themselves, as C hands them.
     #[tactic(auto, using(crate::proofs::Images::accepted_sides))]
     pub fn new(width: usize, height: usize, p0: Vec2, p1: Vec2) -> Result<Self, RefusalAt>
         ensures image { IfOk result (λ stroke. (stroke.image.width ≡ width) × (stroke.image.height ≡ height)) }
@@ -37,7 +37,7 @@ impl Accepted {
         })
     }
 
-    // Its walk. No step is longer than a pixel, and the walk leaves the ranges of the ends by itself.
+    // Its walk. No step adds more than a pixel to x or to y, and the walk leaves the ranges of the ends by itself.
     pub fn walk(self) -> Walk
         ensures x { result.x ≡ along_x self.p0 self.p1 }
         ensures y { result.y ≡ along_y self.p0 self.p1 }

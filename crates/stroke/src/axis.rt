@@ -14,7 +14,8 @@ pub struct Axis {
 impl Axis {
     ghost use Rattle.stroke.specs.Walk.{axis_from, within};
 
-    // From p to q. The slope keeps the difference's sign. The range between p and q is made here, since it is widened, by 2 ^ -23.
+    // From p to q. The slope keeps the difference's sign. The range goes from the lesser of p and q to the greater, each end moved
+    // outwards by 2 ^ -23 and rounded.
     pub fn between(step: f32, p: f32, q: f32) -> Self
         ensures { result ≡ axis_from step p q }
     {
@@ -26,7 +27,7 @@ impl Axis {
         }
     }
 
-    // Both tests, with no branch between them, so that those of the two coordinates are made at once.
+    // Whether x is within the range. A NaN is. There is no branch between the two tests, so that those of both coordinates are made at once.
     pub fn spans(self, x: f32) -> bool
         ensures { result ≡ within self x }
     {

@@ -5,7 +5,7 @@ ghost use Rattle.stroke.specs.Image.{on_side_of, in_sides_of};
 
 use types::Vec2;
 
-// At most 16,384 pixels a side, so that a side is exact as a float and the number of a pixel fits.
+// A side has at most 16,384 pixels, so that it is exact as a float and the number of a pixel fits.
 #[derive(Clone, Copy, Debug, PartialEq, Eq)]
 pub struct Image {
     pub width: usize,
@@ -14,7 +14,7 @@ pub struct Image {
     pub ghost high: { height ≤ SIDE_MAX },
 }
 
-// At least 0 and below the side.
+// Whether x is at least 0 and below the side.
 fn on_side(side: f32, x: f32) -> bool
     ensures { result ≡ on_side_of side x }
 {
@@ -22,7 +22,7 @@ fn on_side(side: f32, x: f32) -> bool
 }
 
 // Whether p is in an image with these sides.
-pub fn in_sides(wide: f32, high: f32, p: Vec2) -> bool
+fn in_sides(wide: f32, high: f32, p: Vec2) -> bool
     ensures { result ≡ in_sides_of wide high p }
 {
     on_side(wide, p.x) & on_side(high, p.y)

@@ -1,4 +1,4 @@
-// A stroke as its walk sees it: two axes, the positions, and where the walk leaves the ranges of its ends.
+// A stroke as its walk sees it: two axes, the positions, and whether the walk goes on at a position.
 #![tactic(auto, unfolding(crate::specs::Walk::step_of, crate::specs::Walk::axis_from, crate::specs::Walk::within, crate::specs::Walk::in_ranges_of, crate::specs::Image::on_side_of, crate::specs::Image::in_sides_of))]
 
 mod accepted;
@@ -8,5 +8,5 @@ mod walk;
 
 pub use accepted::Accepted;
 pub use axis::Axis;
-pub use image::{Image, in_sides};
-pub use walk::{MOST_STEPS, Walk, step_between};
+pub use image::Image;
+pub use walk::Walk;

@@ -13,21 +13,21 @@ use Rattle.stroke_check.specs.Answer.{if_accepted}
 abbrev pub difference_of : Float → Float → ℕ
 difference_of x y = nat_abs (units_of y -ℤ units_of x)
 
--- n / u, rounded up to a whole number
+-- n / u, rounded up to a whole number; u is not 0
 abbrev pub up_to : ℕ → ℕ → ℕ
 up_to u n = (n + (u - 1)) / u
 
--- "the exact larger difference between the ends, rounded up to a whole number"
+-- D: the larger of the exact differences between the ends in x and in y, rounded up to a whole number
 unfoldable pub larger_difference_of : Vec2 → Vec2 → ℕ
 larger_difference_of p q = up_to (2 ^ 149) (max (difference_of p.x q.x) (difference_of p.y q.y))
 
 -- ---- the bounds: `closing` says whether the walk has the closing entry
 
--- "at most 2D + 2 entries", and without the closing entry "at most 2D + 1"
+-- 2 D + 2 entries at most, and 2 D + 1 without the closing entry
 abbrev pub most_by_ends : Bool → Vec2 → Vec2 → ℕ
 most_by_ends closing p q = 2 * larger_difference_of p q + 1 + one_if_of closing
 
--- a pixel for each column of the image or for each row
+-- one for each column or each row of the image, whichever are more, and the closing entry
 abbrev pub most_by_sides : Bool → ℕ → ℕ → ℕ
 most_by_sides closing w h = max w h + one_if_of closing
 

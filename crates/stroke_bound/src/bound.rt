@@ -15,8 +15,8 @@ fn most_entries(stroke: Accepted) -> usize
     by_ends.min(by_sides)
 }
 
-// Whether a list with room for so many entries, besides the closing one, is long enough by one of the two bounds. The sides
-// are asked first: where they answer, no difference is worked out.
+// Whether a list with room for so many entries besides the closing one is surely long enough: the room is no less than one of the two bounds. The
+// sides are asked first: where they answer, no difference is worked out.
 pub fn is_ample(stroke: Accepted, room: usize) -> bool
     ensures { result ≡ nat_le (most_entries_of false stroke.image.width stroke.image.height stroke.p0 stroke.p1) room }
 {

@@ -7,9 +7,9 @@ ghost use Rattle.stroke_bound.specs.Bound.{difference_of, up_to, larger_differen
 use stroke::Accepted;
 use types::Range;
 
-// high - low, exact and rounded up. The whole part n of the rounded difference is that number or one less: one less where high - n is above low.
-// Rounding keeps that order, so a float `high - whole` above low is so exactly; and it is exact itself where high is the larger of the two in
-// size. Where low is, -low - n is exact, and above -high in the same case.
+// high - low, exact and rounded up. Let n be the whole part of the rounded difference. The answer is n, or n + 1 if high - n is above low.
+// The first test rounds high - n. Rounding keeps an order, so a rounded number above low comes of an exact one above low. Where high is the larger of
+// the two in size, nothing is rounded, so that the test decides. Where low is, it is -low - n that is exact, and the second test decides.
 fn rise(range: Range) -> usize
     requires { (Size 65536 range.low × Size 65536 range.high) × (lt range.high range.low ≡ false) }
     ensures { (result ≡ up_to (2 ^ 149) (difference_of range.low range.high)) × (result ≤ 131073) }
@@ -24,8 +24,8 @@ fn rise(range: Range) -> usize
     n
 }
 
-// The difference of x and y in size, exact and rounded up. The range between them is made by their order, which `rise` asks for. Three contracts say
-// the same bound on it, by which the next sum cannot overflow: a type for it would be made and taken apart at each of them.
+// The size of the difference of x and y, exact and rounded up. `rise` asks for the two in order. Three contracts say the same bound, by which the next
+// sum cannot overflow: a type for it would be made and taken apart at each of them.
 fn rounded_up(x: f32, y: f32) -> usize
     requires { Size 65536 x × Size 65536 y }
     ensures { (result ≡ up_to (2 ^ 149) (difference_of x y)) × (result ≤ 131073) }
@@ -37,7 +37,7 @@ fn rounded_up(x: f32, y: f32) -> usize
     }
 }
 
-// The larger of the differences between a stroke's ends, in x and in y.
+// The larger of the differences between a stroke's ends in x and in y, exact and rounded up.
 pub(crate) fn larger_difference(stroke: Accepted) -> usize
     ensures { (result ≡ larger_difference_of stroke.p0 stroke.p1) × (result ≤ 131073) }
 {

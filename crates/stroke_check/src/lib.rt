@@ -9,7 +9,7 @@ use types::{Refusal, RefusalAt, Vec2, sides_too_large};
 // The largest size that a coordinate may have.
 const LIMIT: f32 = 65536.0;
 
-// Finite and at most the limit in size. One comparison, as `bad_coordinate` of tiles is, which has another limit.
+// Whether x is finite and at most the limit in size. One comparison tells: the size of a NaN or of an infinity is not at most the limit.
 fn within_limit(x: f32) -> bool
     ensures { result ≡ within_limit_of x }
 {

@@ -14,10 +14,10 @@ use Rattle.rounded.proofs.Down.{both}
 use Rattle.stroke_check.specs.Check.{first_offender_of, coordinates, unless_offender}
 use Rattle.stroke_check.proofs.Accepted.{AreFloats, yes, bounded, none_offends}
 use Rattle.stroke_ink.specs.Ink.{drawn_of, ink_of}
-use Rattle.stroke_ink.specs.Promise.{Inked, Promise}
+use Rattle.stroke_ink.specs.Promise.{Inked, InkPromise}
 use Rattle.stroke_ink.proofs.Laws.{is_length, whole, missed, outside, no_length}
 
-pub refused : {p q : Vec2} {b : Aabb2} {at : RefusalAt} → Err at ≡ ink_of p q b → Promise p q b (Err at)
+pub refused : {p q : Vec2} {b : Aabb2} {at : RefusalAt} → Err at ≡ ink_of p q b → InkPromise p q b (Err at)
 refused e = record { answers = e; inked = λ x z. absurd (let y : ◌≡◌ {A = ℕ} 0 1 = cc in let o : ⊥ = omega arith in o) }
 
 -- coordinates that are f32 and let pass, and a box in order
@@ -36,7 +36,7 @@ module _ {p q : Vec2} {b : Aabb2} (f : AreFloats p q) (pass : yes ≡ unless_off
         no_length = no_length w b;
       }
 
-  pub measured : {x : Float} → x ≡ drawn_of p q b → Promise p q b (Ok x)
+  pub measured : {x : Float} → x ≡ drawn_of p q b → InkPromise p q b (Ok x)
   unfolding ink_of unless_offender
   measured {x} d = record {
     answers = rw (d, none_offends pass, ordered);

@@ -20,9 +20,9 @@ beyond_one low high p q = lt p low && lt q low || lt high p && lt high q
 abbrev pub beyond_an_edge : Aabb2 → Vec2 → Vec2 → Bool
 beyond_an_edge b p q = beyond_one b.min_x b.max_x p.x q.x || beyond_one b.min_y b.max_y p.y q.y
 
--- the ink x of the stroke from p to q in the box b
+-- what is said of the ink x of the stroke from p to q in the box b
 pub record Inked (p q : Vec2) (b : Aabb2) (x : Float) : Type 0 where
-  -- it is finite, and not below zero
+  -- it is finite and not below zero
   pub is_finite : finite x ≡ true
   pub not_negative : le +0 x ≡ true
   -- with both ends in the box, edges included, it is the stroke's own length
@@ -32,6 +32,7 @@ pub record Inked (p q : Vec2) (b : Aabb2) (x : Float) : Type 0 where
   pub outside : beyond_an_edge b p q ≡ true → x ≡ +0
   pub no_length : same_ends_of p q ≡ true → x ≡ +0
 
-pub record Promise (p q : Vec2) (b : Aabb2) (r : Result Float RefusalAt) : Type 0 where
+-- for the stroke from p to q and the box b: r is what the call returns
+pub record InkPromise (p q : Vec2) (b : Aabb2) (r : Result Float RefusalAt) : Type 0 where
   pub answers : r ≡ ink_of p q b
   pub inked : (x : Float) → r ≡ Ok x → Inked p q b x

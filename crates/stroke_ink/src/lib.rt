@@ -1,16 +1,16 @@
 // The ink that a pen stroke leaves in an upright box: the length of what it draws there.
-// The two ends of the stroke and the box stand apart, as in C and in ./ask.
+// The two ends of the stroke and the box are arguments of their own, as in C and in ./ask.
 #![tactic(auto)]
 
 ghost use Rattle.std.specs.Prelude.{◌≡◌};
 ghost use Rattle.stroke_ink.specs.Ink.{bounded_of, length_over_of, drawn_of};
-ghost use Rattle.stroke_ink.specs.Promise.{Promise};
+ghost use Rattle.stroke_ink.specs.Promise.{InkPromise};
 
 use slabs::Interval;
 use stroke_check::within_limits;
 use types::{Aabb2, Refusal, RefusalAt, Vec2};
 
-// What an interval has of the numbers from 0 to 1. A miss stays one.
+// What an interval has of the numbers from 0 to 1. A miss stays a miss.
 #[tactic(auto, unfolding(crate::specs::Ink::bounded_of))]
 fn bounded(i: Interval) -> Interval
     ensures { result ≡ bounded_of i }
@@ -26,7 +26,7 @@ fn bounded(i: Interval) -> Interval
 }
 
 // The length of the stroke over an interval of ratios, and 0 over none.
-// The root has the value of that in `edge2::length`; guessed and confirmed it takes a fraction of the time.
+// The root has the value of that in `edge2::length`. It is guessed and then confirmed, which takes a fraction of the time.
 #[tactic(auto, unfolding(crate::specs::Ink::length_over_of))]
 fn length_over(p0: Vec2, p1: Vec2, i: Interval) -> f32
     ensures { result ≡ length_over_of p0 p1 i }
@@ -53,7 +53,7 @@ fn drawn(p0: Vec2, p1: Vec2, b: Aabb2) -> f32
 // in x, then in y. Equal ends are not refused.
 #[tactic(auto, using(crate::proofs::Promised::refused), unfolding(crate::specs::Ink::ink_of, stroke_check::specs::Check::unless_offender))]
 pub fn ink(p0: Vec2, p1: Vec2, b: Aabb2) -> Result<f32, RefusalAt>
-    ensures { Promise p0 p1 b result }
+    ensures { InkPromise p0 p1 b result }
 {
     within_limits(&[p0.x, p0.y, p1.x, p1.y])?;
     if b.is_ordered() {

@@ -1,4 +1,4 @@
--- Demand 3 on one axis, columns in x or rows in y: the places that are listed are those that own an f32 of the box's range.
+-- One axis, columns in x or rows in y: the places that are listed are those that own an f32 of the box's range.
 use mathlib.Core.Path.{◌≡◌, ap}
 use mathlib.Core.Logic.{inl, inr, ◌↔◌}
 use mathlib.Core.Bool.{true, false}

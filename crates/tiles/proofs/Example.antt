@@ -1,4 +1,5 @@
--- The premises can be met: demand 3 at the first tile row of document 01, with a lent list of eight entries.
+-- The premises can be met: the six tiles of the box from (10, 10) to (40, 20) on a sheet of 4 by 3 tiles of 16 by 16, with a lent list of eight
+-- entries.
 use mathlib.Core.Path.{refl}
 use mathlib.Core.Logic.{inr}
 use mathlib.Core.List.{[], ◌∷◌}

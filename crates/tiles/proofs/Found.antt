@@ -13,7 +13,7 @@ use Rattle.lists.specs.Lent.{written}
 use Rattle.tiles.specs.Sheet.{Sheet}
 use Rattle.tiles.specs.Tiles.{first_column, column_count, first_row, row_count, rows, tiles_of}
 use Rattle.tiles.specs.Answer.{bad_sheet_of, bad_box_of}
-use Rattle.tiles.specs.Promise.{Promise}
+use Rattle.tiles.specs.Promise.{TilesPromise}
 use Rattle.tiles.proofs.Accepted.{sides}
 use Rattle.tiles.proofs.Lists.{length_rows}
 use Rattle.tiles.proofs.Promised.{Floats, refused_room, listed}
@@ -38,7 +38,7 @@ module _ {s : Sheet} {b : Aabb2} {c k r n : ℕ} (f : Found s b c k r n) where
   pub count_le : n * k ≤ 268435456
   count_le = let d = sides s f.sheet_good in mul-le-mul {n₂ = 16384} {m₂ = 16384} (omega arith) (omega arith)
 
-  -- where there is a tile, its column and its row are on the sheet. No proof cites this today; it stands, since docs/PORT.md names it.
+  -- where there is a tile, its column and its row are on the sheet. No proof cites this law, which docs/PORT.md names.
   pub on_sheet : (n * k ≡ 0 → ⊥) → (c + k ≤ s.width) × (s.width ≤ 16384) × (r + n ≤ 16384)
   on_sheet z =
       let d = sides s f.sheet_good in
@@ -47,19 +47,19 @@ module _ {s : Sheet} {b : Aabb2} {c k r n : ℕ} (f : Found s b c k r n) where
       (omega arith, d.width_high, omega arith)
 
   module _ (l : List ℕ) where
-    pub too_short : length l < n * k → Promise s b l (Err Room) l
+    pub too_short : length l < n * k → TilesPromise s b l (Err Room) l
     too_short h = refused_room s b l f.sheet_good f.box_good (rw count_is h)
 
-    pub filled : (l' : List ℕ) → Floats b → n * k ≤ length l → l' ≡ rows s.width c k r n ++ drop (n * k) l → Promise s b l (Ok (n * k)) l'
+    pub filled : (l' : List ℕ) → Floats b → n * k ≤ length l → l' ≡ rows s.width c k r n ++ drop (n * k) l → TilesPromise s b l (Ok (n * k)) l'
     unfolding written
     filled l' t h e = rw (e, rows_are, ← count_is) (listed s b l f.sheet_good f.box_good t (rw count_is h))
 
     -- with no tile there is nothing to write
-    pub empty : Floats b → n * k ≡ 0 → Promise s b l (Ok 0) l
+    pub empty : Floats b → n * k ≡ 0 → TilesPromise s b l (Ok 0) l
     empty t z =
         let ts = rows s.width c k r n in
         let same : l ≡ ts ++ drop (n * k) l = nil ts (length_rows s.width c k r n ∙ z) ∙ ap (λ (x : ℕ). ts ++ drop x l) (sym z) in
-        subst (λ (x : ℕ). Promise s b l (Ok x) l) z (filled l t (omega arith) same)
+        subst (λ (x : ℕ). TilesPromise s b l (Ok x) l) z (filled l t (omega arith) same)
       where
         nil : (x : List ℕ) → length x ≡ 0 → l ≡ x ++ l
         nil [] e = refl

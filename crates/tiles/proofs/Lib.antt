@@ -12,7 +12,7 @@ mod Order
 mod Axis
 mod Members
 mod Rising
-mod Demand3
+mod Smallest
 mod Promised
 mod Found
 mod Rust

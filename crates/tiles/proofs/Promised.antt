@@ -18,10 +18,11 @@ use Rattle.tiles.specs.Sheet.{Sheet}
 use Rattle.tiles.specs.Cover.{NotTiny, Premises, Smallest}
 use Rattle.tiles.specs.Tiles.{tiles_of}
 use Rattle.tiles.specs.Answer.{bad_sheet_of, bad_box_of, overlapping_tiles_of}
-use Rattle.tiles.specs.Promise.{Promise}
+use Rattle.tiles.specs.Promise.{TilesPromise}
 use Rattle.tiles.proofs.Accepted.{Taken, taken, sides, corners}
 use Rattle.tiles.proofs.Axis.{Axis}
-use Rattle.tiles.proofs.Demand3.{demand3}
+use Rattle.tiles.proofs.Smallest.{smallest_cover}
+use Rattle.tiles.proofs.Rust.{rust_place_lem}
 
 -- the corners are f32 values, as a box's are
 pub record Floats (b : Aabb2) : Type 0 where
@@ -31,18 +32,18 @@ pub record Floats (b : Aabb2) : Type 0 where
   pub max_y : fits binary32 b.max_y ≡ true
 
 module _ (s : Sheet) (b : Aabb2) (l : List ℕ) where
-  pub refused_sheet : bad_sheet_of s ≡ true → Promise s b l (Err Size) l
+  pub refused_sheet : bad_sheet_of s ≡ true → TilesPromise s b l (Err Size) l
   unfolding overlapping_tiles_of leaves
-  refused_sheet e = record { answers = simp e; leaves = refl; smallest = λ n z. no_count Size n z }
+  refused_sheet e = record { answers = simp e; leaves = refl; smallest = λ n z. no_count Size n z; same_place = rust_place_lem }
 
-  pub refused_box : bad_sheet_of s ≡ false → bad_box_of b ≡ true → Promise s b l (Err Coordinate) l
+  pub refused_box : bad_sheet_of s ≡ false → bad_box_of b ≡ true → TilesPromise s b l (Err Coordinate) l
   unfolding overlapping_tiles_of leaves
-  refused_box e f = record { answers = simp (e, f); leaves = refl; smallest = λ n z. no_count Coordinate n z }
+  refused_box e f = record { answers = simp (e, f); leaves = refl; smallest = λ n z. no_count Coordinate n z; same_place = rust_place_lem }
 
   module _ (e : bad_sheet_of s ≡ false) (f : bad_box_of b ≡ false) where
-    pub refused_room : length l < length (tiles_of s b) → Promise s b l (Err Room) l
+    pub refused_room : length l < length (tiles_of s b) → TilesPromise s b l (Err Room) l
     unfolding overlapping_tiles_of fitted written leaves
-    refused_room h = record { answers = simp (e, f, lt-ltb (length l) (length (tiles_of s b)) h); leaves = refl; smallest = λ n z. no_count Room n z }
+    refused_room h = record { answers = simp (e, f, lt-ltb (length l) (length (tiles_of s b)) h); leaves = refl; smallest = λ n z. no_count Room n z; same_place = rust_place_lem }
 
     axis : {low high : Float} → Taken low → Taken high → NotTiny low → NotTiny high → units_of low ≤ℤ units_of high → Axis s.size low high
     axis tl th zl zh o = record {
@@ -58,11 +59,11 @@ module _ (s : Sheet) (b : Aabb2) (l : List ℕ) where
     smallest_of : Floats b → Premises b → Smallest s b (length (tiles_of s b)) (tiles_of s b)
     smallest_of t p =
         let c = corners b f in
-        demand3 s b
+        smallest_cover s b
         (axis (taken b.min_x t.min_x c.min_x) (taken b.max_x t.max_x c.max_x) p.min_x_size p.max_x_size p.ordered_x)
         (axis (taken b.min_y t.min_y c.min_y) (taken b.max_y t.max_y c.max_y) p.min_y_size p.max_y_size p.ordered_y)
 
-    pub listed : Floats b → length (tiles_of s b) ≤ length l → Promise s b l (Ok (length (tiles_of s b))) (written (tiles_of s b) l)
+    pub listed : Floats b → length (tiles_of s b) ≤ length l → TilesPromise s b l (Ok (length (tiles_of s b))) (written (tiles_of s b) l)
     unfolding overlapping_tiles_of fitted written leaves
     listed t h =
         let ts = tiles_of s b in
@@ -72,4 +73,5 @@ module _ (s : Sheet) (b : Aabb2) (l : List ℕ) where
           answers = simp (e, f, le-ltb (length l) (length ts) h);
           leaves = refl;
           smallest = λ n z p. subst (λ (m : ℕ). Smallest s b m (take m after)) (same_count (length ts) n z) (rw same (smallest_of t p));
+          same_place = rust_place_lem;
         }

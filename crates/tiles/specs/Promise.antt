@@ -1,4 +1,4 @@
--- The contract of `overlapping_tiles`: its answer, the lent list afterwards, and demand 3. Definitions only.
+-- The contract of `overlapping_tiles`: its answer, the lent list afterwards, and that the tiles are the smallest cover. Definitions only.
 use Rattle.std.specs.Prelude.{◌≡◌, List, ℕ, length, take, Result, Ok}
 use Rattle.types.specs.declared.shape.Aabb2.{Aabb2}
 use Rattle.types.specs.declared.refusal.Refusal.{Refusal}
@@ -7,10 +7,13 @@ use Rattle.tiles.specs.Sheet.{Sheet}
 use Rattle.tiles.specs.Cover.{Premises, Smallest}
 use Rattle.tiles.specs.Tiles.{tiles_of}
 use Rattle.tiles.specs.Answer.{overlapping_tiles_of}
+use Rattle.tiles.specs.Rust.{SamePlace}
 
 -- for the sheet s and the box b: l is the lent list, r is what the call returns, and l' is the list afterwards
-pub record Promise (s : Sheet) (b : Aabb2) (l : List ℕ) (r : Result ℕ Refusal) (l' : List ℕ) : Type 0 where
+pub record TilesPromise (s : Sheet) (b : Aabb2) (l : List ℕ) (r : Result ℕ Refusal) (l' : List ℕ) : Type 0 where
   pub answers : r ≡ overlapping_tiles_of s b (length l)
   pub leaves : l' ≡ leaves r (tiles_of s b) l
-  -- demand 3, of "the lent list's first entries, as many as the count returned"
+  -- where a count is returned and the premises hold, the first entries of the list, as many as the count, are the smallest cover
   pub smallest : (n : ℕ) → r ≡ Ok n → Premises b → Smallest s b n (take n l')
+  -- a coordinate's place is where the Rust has it
+  pub same_place : SamePlace

@@ -10,6 +10,6 @@ use Rattle.tiles.specs.Answer.{bad_coordinate_of}
 abbrev pub rust_place : ℕ → Float → ℤ
 rust_place size x = to_signed 31 (floor_of (x ⊘ of_int binary32 (pos size)))
 
--- for each f32 and each size that is not refused, tiny coordinates included; proved in proofs/Rust.antt
+-- for each f32 and each size that is not refused, tiny coordinates too
 abbrev pub SamePlace : Type 0
 SamePlace = (x : Float) (size : ℕ) → fits binary32 x ≡ true → bad_coordinate_of x ≡ false → 1 ≤ size → size ≤ 4096 → rust_place size x ≡ place size x

@@ -1,5 +1,4 @@
--- The list of tiles that a box overlaps, by floors of rounded quotients, as the Rust has it. Quoted words are document 01's.
--- Definitions only.
+-- The list of tiles that a box overlaps, by floors of rounded quotients, as the Rust has it. Definitions only.
 use Rattle.std.specs.Prelude.{List, [], ◌∷◌, ◌++◌, ℕ, zero, suc, ◌+◌, ◌-◌, ◌*◌, ◌^◌, min, ℤ, pos, negsuc, Float}
 use Rattle.std.specs.Int.Signed.{shr_z}
 use Rattle.std.specs.Float.{binary32}
@@ -15,7 +14,7 @@ use Rattle.tiles.specs.Sheet.{Sheet}
 abbrev pub floor_int : Float → ℤ
 floor_int x = shr_z (units_of x) (2 ^ 149)
 
--- "floor of the rounded quotient low / size", and of high / size: it may be off the sheet
+-- the place that a coordinate of the box lies in: the floor of x / size, the quotient rounded. It may be off the sheet
 abbrev pub place : ℕ → Float → ℤ
 place size x = floor_int (x ⊘ of_int binary32 (pos size))
 
@@ -28,8 +27,8 @@ abbrev pub past : ℤ → ℕ
 past (pos n) = suc n
 past (negsuc n) = 0
 
--- "columns from floor of the rounded quotient low / size up to and including floor of high / size; the same for rows; off-sheet
--- ones are skipped": the first, the one past the last, and how many of the sheet's n they are
+-- The places from that of the low end up to that of the high end, both among them, as far as they are on the sheet: the first, the one past the last,
+-- and how many of the sheet's n places they are.
 abbrev pub first_place : ℕ → Float → ℕ
 first_place size low = from (place size low)
 
@@ -46,7 +45,7 @@ abbrev pub run : ℕ → ℕ → List ℕ
 run a zero = []
 run a (suc k) = a ∷ run (suc a) k
 
--- "Number = row × shape width + column, rising": n rows from row r on, of each the k tiles from column c on
+-- n rows from row r on, and of each row the k tiles from column c on. A tile's number is row × width + column, so the numbers rise
 abbrev pub rows : ℕ → ℕ → ℕ → ℕ → ℕ → List ℕ
 rows width c k r zero = []
 rows width c k r (suc n) = run (r * width + c) k ++ rows width c k (suc r) n

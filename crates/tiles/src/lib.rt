@@ -1,4 +1,4 @@
-// The tiles of a sheet that an upright box overlaps. specs/Promise.antt has what is promised of them.
+// The tiles of a sheet that an upright box overlaps. specs/Promise.antt says what is promised of them.
 #![tactic(auto)]
 
 ghost use Rattle.std.specs.Prelude.{◌≡◌, true, false, ◌++◌, ◌+◌, ◌*◌, ◌≤◌, length, drop, MatchResult};
@@ -6,7 +6,7 @@ ghost use Rattle.types.specs.declared.refusal.Refusal.TheVariants.{Size};
 ghost use Rattle.types.specs.declared.side.TheConstants.{SIDE_MAX};
 ghost use Rattle.tiles.specs.Tiles.{first_place, past_place_of, place_count, run, rows as rows_of};
 ghost use Rattle.tiles.specs.Answer.{sheet, bad_sheet_of, bad_coordinate_of, bad_box_of};
-ghost use Rattle.tiles.specs.Promise.{Promise};
+ghost use Rattle.tiles.specs.Promise.{TilesPromise};
 
 use types::{Aabb2, Range, Refusal, SIDE_MAX};
 
@@ -39,7 +39,7 @@ pub fn overlapping_tiles(
     shape_height: usize,
     out: &mut [u32],
 ) -> Result<usize, Refusal>
-    ensures { Promise (sheet size shape_width shape_height) b out.old result out.new }
+    ensures { TilesPromise (sheet size shape_width shape_height) b out.old result out.new }
 {
     let sheet = Sheet::new(size, shape_width, shape_height)?;
     if bad_box(b) {

@@ -8,7 +8,7 @@ use Rattle.float.specs.Rounded.{◌⊕◌, ◌⊖◌, ◌⊗◌, half}
 abbrev pub ordered_of : Range → Bool
 ordered_of r = le r.low r.high
 
--- the first lies wholly below the second: equal ends touch, and a comparison with a NaN says nothing
+-- the first's high end is below the second's low end: equal ends touch, and no NaN is below or above
 abbrev pub below_of : Range → Range → Bool
 below_of a b = lt a.high b.low
 

@@ -13,7 +13,7 @@ impl Range {
         self.low <= self.high
     }
 
-    // Whether it lies wholly below another. Ranges that touch do not, and a NaN at the ends between them says no.
+    // Whether its high end is below the other's low end. Equal ends say no, and so does a NaN at either.
     pub fn is_below(self, other: Range) -> bool
         ensures { result ≡ below_of self other }
     {
@@ -27,7 +27,7 @@ impl Range {
         (self.low + self.high) * 0.5
     }
 
-    // Negative where the ends are not in order.
+    // The high end less the low one: negative where the low end is above the high one.
     pub fn length(self) -> f32
         ensures { result ≡ length_of self }
     {

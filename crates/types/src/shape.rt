@@ -1,5 +1,4 @@
-// Shapes as structs of f32, by value, each for the plane and for space: that form is asked for, and C hands them so. Fields stand in the order of the
-// Rust's arrays.
+// Shapes as structs of f32, by value, as C hands them, each for the plane and for space. Fields stand in the order of the Rust's arrays.
 
 // A point or a vector.
 #[repr(C)]

@@ -8,9 +8,9 @@ use Rattle.hatch_encode.specs.Encode.{head_bytes}
 use Rattle.hatch_write.proofs.begin.Goals as goal
 
 -- the header stands at the start of the list
-pub returns-clause-out_after : goal.returns-clause-out_after
+pub returns-clause-leaves : goal.returns-clause-leaves
 unfolding leaves
-returns-clause-out_after c =
+returns-clause-leaves c =
     let l = c.args.out.now in
     c.put_head.ensures
     ∙ ap (λ (q : Row). sets l 0 (head_bytes hsl q.version c.args.count)) c.version_one-row.ensures

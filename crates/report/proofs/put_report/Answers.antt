@@ -6,11 +6,11 @@ use Rattle.report.proofs.Room.{refusal, records}
 use Rattle.report.proofs.put_report.Goals as goal
 
 pub put_lines-requires : goal.put_lines-requires
-put_lines-requires c = held hsl _ _ _ (sym c.head_of.ensures ∙ c.in-Ok.is)
+put_lines-requires c = held hsl _ _ _ (sym c.head_of.ensures.answers ∙ c.in-Ok.is)
 
 -- the text is that of what the file says
 pub returns-in-Err : goal.returns-in-Err
-returns-in-Err c = same (refusal _ c.head_of.ensures c.in-Err.is) c.put_refusal.ensures
+returns-in-Err c = same (refusal _ c.head_of.ensures.answers c.in-Err.is) c.put_refusal.ensures
 
 pub returns-in-Ok : goal.returns-in-Ok
-returns-in-Ok c = same (records _ c.head_of.ensures c.in-Ok.is) (many _ _ c.put_opening.ensures c.put_lines.ensures)
+returns-in-Ok c = same (records _ c.head_of.ensures.answers c.in-Ok.is) (many _ _ c.put_opening.ensures c.put_lines.ensures)

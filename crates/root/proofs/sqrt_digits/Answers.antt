@@ -21,7 +21,9 @@ own : (x : Float) → T (fits binary32 x) → x ≡ of_bits binary32 (to_bits bi
 own x f = from_bits x (to_bits binary32 x) f refl
 
 -- no digit is worked, as the argument is not both finite and above zero
-unworked : {r v w : Float} {d : ℕ} (x : Float) → T (fits binary32 x) → x ≡ v → Unworked v w → r ≡ w → d ≡ 0 → SquareRoot x r × DigitsWorked x r d
+unworked :
+    {r v w : Float} {d : ℕ} (x : Float) → T (fits binary32 x) → x ≡ v → Unworked v w → r ≡ w → d ≡ 0 →
+    SquareRoot x r × DigitsWorked x r d
 unworked {r} x f e s same none =
     let is : r ≡ sqrt_of x = same ∙ sym (ap sqrt_of e ∙ s.0) in
     let other : positive x ≡ false = ap positive e ∙ s.1 in
@@ -42,21 +44,24 @@ returns-then-is_nan c =
     let f : T (fits binary32 c.args.x) = passes _ c.well_formed.0.1 in
     let u = c.unworked.ensures in
     let is = only_nan c.args.x (sym c.is_nan.ensures.value ∙ c.if-is_nan.true) in
-    unworked c.args.x f is root_nan (u.0 ∙ is) u.1
+    let r = unworked c.args.x f is root_nan (u.0 ∙ is) u.1 in
+    record { root = r.0; digits = r.1 }
 
 pub returns-then-bits-eq0 : goal.returns-then-bits-eq0
 returns-then-bits-eq0 c =
     let f : T (fits binary32 c.args.x) = passes _ c.well_formed.0.1 in
     let u = c.unworked-then-bits-eq0.ensures in
     let is = from_bits c.args.x 0 f c.if-bits-eq0.true in
-    unworked c.args.x f is root_zero (u.0 ∙ is) u.1
+    let r = unworked c.args.x f is root_zero (u.0 ∙ is) u.1 in
+    record { root = r.0; digits = r.1 }
 
 pub returns-then-bits : goal.returns-then-bits
 returns-then-bits c =
     let f : T (fits binary32 c.args.x) = passes _ c.well_formed.0.1 in
     let u = c.unworked-then-bits.ensures in
     let is = from_bits c.args.x 0x8000_0000 f c.if-bits.true in
-    unworked c.args.x f is root_minus_zero (u.0 ∙ is) u.1
+    let r = unworked c.args.x f is root_minus_zero (u.0 ∙ is) u.1 in
+    record { root = r.0; digits = r.1 }
 
 pub returns-then-bits-gt2147483648 : goal.returns-then-bits-gt2147483648
 returns-then-bits-gt2147483648 c =
@@ -64,7 +69,8 @@ returns-then-bits-gt2147483648 c =
     let f : T (fits binary32 x) = passes _ c.well_formed.0.1 in
     let u = c.unworked-then-bits-gt2147483648.ensures in
     let none = root_negative (to_bits binary32 x) c.if-bits-gt2147483648.true (to_bits-lt binary32 x f) in
-    unworked x f (own x f) none (u.0 ∙ nan_is) u.1
+    let r = unworked x f (own x f) none (u.0 ∙ nan_is) u.1 in
+    record { root = r.0; digits = r.1 }
 
 pub returns-then-bits-ge2139095040 : goal.returns-then-bits-ge2139095040
 returns-then-bits-ge2139095040 c =
@@ -72,7 +78,8 @@ returns-then-bits-ge2139095040 c =
     let f : T (fits binary32 x) = passes _ c.well_formed.0.1 in
     let u = c.unworked-then-bits-ge2139095040.ensures in
     let top = root_top (to_bits binary32 x) c.if-bits-ge2139095040.true (search rules) in
-    unworked x f (own x f) top (u.0 ∙ own x f) u.1
+    let r = unworked x f (own x f) top (u.0 ∙ own x f) u.1 in
+    record { root = r.0; digits = r.1 }
 
 pub returns : goal.returns
 returns c =
@@ -83,4 +90,4 @@ returns c =
     let above : T (positive x) = subst (λ v. T (positive v)) (sym (own x f)) (positive_at b (search rules) (search rules)) in
     let value = c.unpack.ensures.value ∙ sym (ap radicand (own x f)) in
     let is = p.0 ∙ ap nearest_root value ∙ sym (positive_root x above) in
-    (square_root x _ f is, digits_worked x f is (λ q. rw value at p.1) (λ no. absurd (subst T no above)))
+    record { root = square_root x _ f is; digits = digits_worked x f is (λ q. rw value at p.1) (λ no. absurd (subst T no above)) }

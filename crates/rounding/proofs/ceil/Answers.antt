@@ -9,4 +9,4 @@ use Rattle.rounding.proofs.ceil.Goals as goal
 pub returns : goal.returns
 returns c =
     let x = c.args.x in
-    ceil_rounds x _ (passes _ c.well_formed.0.1) (ap neg c.floor.ensures.value ∙ ceil_by_floor x)
+    ceil_rounds x _ (passes _ c.well_formed.0.1) (ap neg c.floor.ensures.answers ∙ ceil_by_floor x)

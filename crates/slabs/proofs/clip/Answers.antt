@@ -1,7 +1,7 @@
 use Rattle.std.proofs.Common.{◌≡◌, arith}
 use Rattle.std.proofs.lemmas.Grind.{common_steps}
 use Rattle.slabs.specs.Clip.{narrow_all, clip_over}
-use Rattle.slabs.proofs.Promise.{line_answer}
+use Rattle.slabs.proofs.Promise.{line_answer, answer_laws}
 use Rattle.slabs.proofs.clip.Goals as goal
 
 pub loop-s-preserved : goal.loop-s-preserved
@@ -14,4 +14,4 @@ unfolding narrow_all clip_over
 returns g c =
     let h = c.loop-s.invariant in
     let answers : c.ordered.result ≡ clip_over c.args.slabs.now = grind (arith, common_steps, h) in
-    record { answers = answers; means = line_answer c.args.slabs.now c.ordered.result answers }
+    record { answers = answers; means = line_answer c.args.slabs.now c.ordered.result answers; laws = answer_laws }

@@ -4,7 +4,7 @@ use Rattle.std.specs.Prelude.{Result}
 use Rattle.types.specs.declared.refusal.Refusal.{Refusal}
 use Rattle.tiles.specs.Sheet.{Sheet}
 use Rattle.tiles.specs.Answer.{sheet, bad_sheet_of}
-use Rattle.tiles.specs.Promise.{Promise}
+use Rattle.tiles.specs.Promise.{TilesPromise}
 use Rattle.tiles.proofs.Accepted.{corners}
 use Rattle.tiles.proofs.Promised.{Floats, refused_sheet, refused_box}
 use Rattle.tiles.proofs.Found.{Found, count_le, too_short, filled, empty}
@@ -23,9 +23,9 @@ sheet_good c = ap bad_sheet_of c.in_ok-sheet.ensures.1 ∙ c.in_ok-sheet.ensures
 promised :
     (c : In_ok-sheet) (r : Result ℕ Refusal) (l : List ℕ) →
     let made = c.in_ok-sheet.sheet in
-    Promise (sheet made.size made.width made.height) c.args.b c.args.out.now r l
-    → Promise (sheet c.args.size c.args.shape_width c.args.shape_height) c.args.b c.args.out.now r l
-promised c r l = subst (λ (s : Sheet). Promise s c.args.b c.args.out.now r l) c.in_ok-sheet.ensures.1
+    TilesPromise (sheet made.size made.width made.height) c.args.b c.args.out.now r l
+    → TilesPromise (sheet c.args.size c.args.shape_width c.args.shape_height) c.args.b c.args.out.now r l
+promised c r l = subst (λ (s : Sheet). TilesPromise s c.args.b c.args.out.now r l) c.in_ok-sheet.ensures.1
 
 found :
     (c : After-places-rows) →

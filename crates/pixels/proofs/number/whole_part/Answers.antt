@@ -19,4 +19,4 @@ overflow_sub-result c =
 pub returns : goal.returns
 returns c =
     let d = digits_of c.args.x (passes _ c.well_formed.0.1) c.requires.size c.requires.sign in
-    record { value = omega (arith, d.bits_are); small = omega (arith, d.bits_are, cut_le c.args.x c.requires.size) }
+    record { answers = omega (arith, d.bits_are); small = omega (arith, d.bits_are, cut_le c.args.x c.requires.size) }

@@ -1,5 +1,4 @@
-use Rattle.pixels.specs.Limit.{test_of}
-use Rattle.pixels.proofs.Choosing.{row_limits}
+use Rattle.pixels.proofs.Choosing.{test_of, row_limits}
 use Rattle.pixels.proofs.course.Course.along_rows.Goals as goal
 
 pub run-requires-clause-y : goal.run-requires-clause-y

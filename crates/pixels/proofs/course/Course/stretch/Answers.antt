@@ -1,6 +1,5 @@
 use Rattle.std.proofs.Common.{sym, ◌∙◌}
-use Rattle.pixels.specs.Limit.{test_of}
-use Rattle.pixels.proofs.Choosing.{column_limits, stretch_none}
+use Rattle.pixels.proofs.Choosing.{test_of, column_limits, stretch_none}
 use Rattle.pixels.proofs.course.Course.stretch.Goals as goal
 
 pub returns-then-not-is_inside : goal.returns-then-not-is_inside
