@@ -1,9 +1,9 @@
 #!/usr/bin/env python3
 """Writes section.hsl, a sample hatch list: the section through two parts that touch at x = 0, in millimetres.
 
-The right face is hatched with lines that rise at 45 degrees, and the left one, as drawing practice has it for a neighbour, with lines that
-fall. Each rising line comes first and its falling twin, mirrored at x = 0, after it. The first and the last pair run past the corners and miss.
-crates/hatch_clip/stdin is a copy of the file.
+The right face is hatched with lines that rise at 45 degrees, and the left one with lines that fall: faces that touch are hatched so that they
+read as two parts. Each rising line is followed by its falling twin, mirrored at x = 0. The first and the last pair run past the corners and
+miss. y grows downwards, so that on a screen a line that rises goes down to the right. crates/hatch_clip/stdin is a copy of the file.
 """
 
 import math

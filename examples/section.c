@@ -1,6 +1,6 @@
 /*
- * Clips a hatch list line by line, and one of its faces in one call, and makes the bytes to save with a line corrected;
- * then lists the pixels of two strokes and the tiles of a box.
+ * Clips a hatch list line by line, and one of its faces in one call, and makes the bytes to save with a line corrected.
+ * Then lists the pixels of pen strokes and the tiles of a box, and shows two refusals.
  *
  *   ./install PREFIX
  *   cc -std=c99 -IPREFIX/include examples/section.c -LPREFIX/lib -lbagnoszyk -o section
@@ -12,8 +12,11 @@
 #include <stdio.h>
 #include <string.h>
 
-/* One byte more than the longest hatch list has, which tells a longer file: it is refused and not cut. */
-enum { BYTES = BGZ_HATCH_BYTES_MAX + 1, FLOATS = BGZ_HATCH_FLOATS_MAX, RECORD = BGZ_HATCH_RECORD_FLOATS };
+/* One byte more than the longest hatch list has: of a longer file that many are read, and they are refused. */
+enum { BYTES = BGZ_HATCH_BYTES_MAX + 1, FLOATS = BGZ_HATCH_FLOATS_MAX };
+
+/* The floats of a record: the box's first, then the line's, which are its point and its direction. */
+enum { RECORD = BGZ_HATCH_RECORD_FLOATS, LINE = RECORD - BGZ_LINE_FLOATS, DIRECTION_X = LINE + 2 };
 
 /* Room for the lines of any face of a hatch list, and for what they give. */
 enum { LINES = BGZ_LINE_FLOATS * BGZ_HATCH_RECORDS_MAX, RESULTS = BGZ_LINE_RESULT_FLOATS * BGZ_HATCH_RECORDS_MAX };
@@ -61,7 +64,7 @@ static void print_list(const char *what, const uint32_t *list, size_t count) {
     printf("\n");
 }
 
-/* Counts, and the first line of either kind that does more than touch its box. */
+/* Counts the lines, and prints the ends of the first that rises and of the first that falls and does more than touch its box. */
 static void print_section(const float *floats, size_t count) {
     size_t hits = 0, rising = 0, falling = 0;
     const float *first_rising = NULL, *first_falling = NULL;
@@ -85,13 +88,13 @@ static void print_section(const float *floats, size_t count) {
         print_ends("falling", line_of(first_falling));
 }
 
-/* All lines of the first record's face, in one call. There is a record. */
+/* Clips all lines of the first record's face in one call. The list has a record. */
 static void print_face(const float *floats, size_t count) {
     static float lines[LINES], results[RESULTS];
     size_t length = 0, hits = 0;
     for (const float *record = floats; record < floats + RECORD * count; record += RECORD) {
-        if (memcmp(record, floats, 4 * sizeof *record) == 0) {
-            memcpy(lines + length, record + 4, BGZ_LINE_FLOATS * sizeof *record);
+        if (memcmp(record, floats, LINE * sizeof *record) == 0) {
+            memcpy(lines + length, record + LINE, BGZ_LINE_FLOATS * sizeof *record);
             length += BGZ_LINE_FLOATS;
         }
     }
@@ -107,17 +110,17 @@ static void print_face(const float *floats, size_t count) {
 
 /*
  * Negates the direction's x of the first record, so that its line leans the other way, and makes the bytes to store.
- * Records are saved by their bits: what is not corrected stays as it was, byte for byte. The list was read, and there is a
- * record.
+ * Records are saved by their bits: what is not corrected stays as it was, byte for byte. The bytes are those of a list that
+ * was read and has a record.
  */
 static void print_saved(const uint8_t *bytes, size_t length) {
     static uint32_t patterns[FLOATS];
     static uint8_t saved[BGZ_HATCH_BYTES_MAX];
     bgz_read_answer read = bgz_hatch_read_patterns(bytes, length, patterns, FLOATS);
     float dx;
-    memcpy(&dx, &patterns[6], sizeof dx);
+    memcpy(&dx, &patterns[DIRECTION_X], sizeof dx);
     dx = -dx;
-    memcpy(&patterns[6], &dx, sizeof dx);
+    memcpy(&patterns[DIRECTION_X], &dx, sizeof dx);
     bgz_count_answer answer = bgz_hatch_write_patterns(patterns, RECORD * read.count, saved, sizeof saved);
     if (answer.status != BGZ_ANSWERED) {
         printf("to save: %s\n", bgz_refusal_text(answer.status));
@@ -160,8 +163,10 @@ int main(int argc, char **argv) {
     pixels = bgz_edge2_overlapping_pixels_dda(8, 8, high_left, low_right, list, 16);
     print_list("falling stroke", list, pixels.count);
 
-    /* Along a row to the right margin: the closing entry is the next row's first pixel, which the stroke does not cross. Without it all entries
-     * lie in the image. How many there are at most is known beforehand. */
+    /*
+     * A stroke along a row to the right margin: the closing entry is the next row's first pixel, which the stroke does not
+     * cross. Without it each entry is a pixel of the image. How many entries there are at most is known beforehand.
+     */
     bgz_vec2 in_row = {4.5f, 2.5f}, at_margin = {7.5f, 2.5f};
     pixels = bgz_edge2_overlapping_pixels_dda(8, 8, in_row, at_margin, list, 16);
     print_list("stroke to the margin", list, pixels.count);
@@ -169,7 +174,7 @@ int main(int argc, char **argv) {
     print_list("its pixels inside", list, pixels.count);
     printf("entries at most: %zu\n", bgz_edge2_pixels_bound(8, 8, in_row, at_margin).count);
 
-    /* A stroke to a point that is not there: refused, and the place tells which of the four coordinates it is. */
+    /* A stroke to a point whose x is a NaN is refused, and the place tells which of the four coordinates it is. */
     bgz_vec2 nowhere = {NAN, 3.5f};
     pixels = bgz_edge2_overlapping_pixels_dda(8, 8, low_left, nowhere, list, 16);
     printf("stroke refused: %" PRIu32 " at %zu\n", pixels.status, pixels.place);
@@ -179,7 +184,7 @@ int main(int argc, char **argv) {
     bgz_count_answer tiles = bgz_aabb2_overlapping_tiles(face, 16, 4, 3, list, 16);
     print_list("tiles", list, tiles.count);
 
-    /* The same with a list that is one entry too short: the call is refused, and the list keeps its entries. */
+    /* The same with a list that is an entry too short: the call is refused, and the list keeps its entries. */
     uint32_t kept[5] = {9, 9, 9, 9, 9};
     bgz_count_answer refused = bgz_aabb2_overlapping_tiles(face, 16, 4, 3, kept, 5);
     printf("refusal: %" PRIu32 "\n", refused.status);

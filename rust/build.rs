@@ -3,7 +3,7 @@
 use std::path::Path;
 use std::{env, process};
 
-/// Names the folder of libbagnoszyk.a.
+/// The environment variable that names the folder of libbagnoszyk.a.
 const FOLDER: &str = "BAGNOSZYK_STATICLIB";
 const ARCHIVE: &str = "libbagnoszyk.a";
 
@@ -23,7 +23,7 @@ fn main() {
 
 fn missing(what: &str) -> ! {
     println!(
-        "cargo::error={what}: run ./install PREFIX, and let it be the whole path of PREFIX/lib"
+        "cargo::error={what}: run ./install PREFIX, and set {FOLDER} to the whole path of PREFIX/lib"
     );
     process::exit(1);
 }

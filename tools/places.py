@@ -1,9 +1,9 @@
 #!/usr/bin/env python3
-"""Lists the places that docs/DESIGN-PASS.md counts, point by point, in the repository or in a commit of it.
+"""The tool of a record, docs/DESIGN-PASS.md: lists the places that the page counts, point by point, in the repository or in a commit of it.
 
     python3 tools/places.py [COMMIT]
 
-A place is what a reader would look at: the list is longer than what has to change, and reading decides.
+The patterns find more places than have to change. Whoever reads a place decides.
 """
 import collections
 import re

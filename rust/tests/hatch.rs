@@ -1,12 +1,13 @@
 //! The hatch list through the C ABI: what is read, what is written, what is reported, each refusal, and what becomes of the lent lists.
 
+use bagnoszyk::limits::{HATCH_BYTES_MAX, HATCH_FLOATS_MAX, HATCH_REPORT_MAX};
 use bagnoszyk::{Read, Refusal, RefusalAt, hatch};
 
 const SECTION: &[u8] = include_bytes!("../../examples/section.hsl");
 const REPORT: &[u8] = include_bytes!("../../crates/hatch_clip/stdout");
 const RECORDS: Read = Read { version: 1, count: 306 };
 
-/// Stands in every entry before a call.
+/// What every entry holds before a call.
 const MARKED: u32 = 0x5a5a_5a5a;
 
 fn words() -> impl Iterator<Item = u32> {
@@ -35,14 +36,14 @@ fn an_incomplete_record_does_not_count() {
 
 #[test]
 fn the_report_is_what_the_program_prints() {
-    let mut out = [0xff; 54_014];
+    let mut out = [0xff; HATCH_REPORT_MAX];
     let length = hatch::report(SECTION, &mut out);
     assert_eq!(&out[..length], REPORT);
     assert!(out[length..].iter().all(|&byte| byte == 0xff));
 }
 
 #[test]
-fn a_report_with_no_room_is_cut_and_counted() {
+fn a_report_with_too_little_room_is_cut_and_counted() {
     for room in [0, 1, 100, REPORT.len() - 1] {
         let mut out = vec![0; room];
         assert_eq!(hatch::report(SECTION, &mut out), REPORT.len());
@@ -61,13 +62,13 @@ fn a_refusal_gives_its_number_and_byte_and_changes_nothing() {
     // The second byte of the count: 0x0832 records.
     let too_many = edited(6, 8);
     let cases: [(&[u8], usize, RefusalAt); 9] = [
-        (b"", 16_000, Refusal::MARK.at(0)),
-        (&edited(2, b'l'), 16_000, Refusal::MARK.at(0)),
-        (&SECTION[..6], 16_000, Refusal::LENGTH.at(6)),
-        (&edited(3, 2), 16_000, Refusal::VERSION.at(3)),
-        (&too_many, 16_000, Refusal::COUNT.at(5)),
-        (&SECTION[..SECTION.len() - 1], 16_000, Refusal::LENGTH.at(SECTION.len() - 1)),
-        (&longer, 16_000, Refusal::LENGTH.at(SECTION.len())),
+        (b"", HATCH_FLOATS_MAX, Refusal::MARK.at(0)),
+        (&edited(2, b'l'), HATCH_FLOATS_MAX, Refusal::MARK.at(0)),
+        (&SECTION[..6], HATCH_FLOATS_MAX, Refusal::LENGTH.at(6)),
+        (&edited(3, 2), HATCH_FLOATS_MAX, Refusal::VERSION.at(3)),
+        (&too_many, HATCH_FLOATS_MAX, Refusal::COUNT.at(5)),
+        (&SECTION[..SECTION.len() - 1], HATCH_FLOATS_MAX, Refusal::LENGTH.at(SECTION.len() - 1)),
+        (&longer, HATCH_FLOATS_MAX, Refusal::LENGTH.at(SECTION.len())),
         (SECTION, 8 * 306 - 1, Refusal::ROOM.at(SECTION.len())),
         (SECTION, 0, Refusal::ROOM.at(SECTION.len())),
     ];
@@ -88,7 +89,7 @@ fn a_refusal_gives_its_number_and_byte_and_changes_nothing() {
     }
 }
 
-/// Its records, and one with NaNs of every kind: signalling and quiet, of either sign.
+/// The records of the file, and one with NaNs of every kind: signalling and quiet, of either sign.
 fn patterns() -> Vec<u32> {
     const NANS: [u32; 8] = [
         0x7f80_0001,
@@ -148,11 +149,11 @@ fn entries_that_make_no_record_are_not_written() {
 #[test]
 fn a_refused_write_gives_its_number_and_changes_nothing() {
     let cases = [
-        // Too many records come before a list that is too short.
+        // Too many records are tested before a list that is too short.
         (8 * 2001, 0, Refusal::COUNT),
-        (8 * 2001, 64_039, Refusal::COUNT),
-        (8 * 2001 + 7, 64_038, Refusal::COUNT),
-        (8 * 2000 + 7, 64_006, Refusal::ROOM),
+        (8 * 2001, HATCH_BYTES_MAX + 32, Refusal::COUNT),
+        (8 * 2001 + 7, HATCH_BYTES_MAX + 31, Refusal::COUNT),
+        (8 * 2000 + 7, HATCH_BYTES_MAX - 1, Refusal::ROOM),
         (8, 38, Refusal::ROOM),
         (7, 6, Refusal::ROOM),
         (0, 0, Refusal::ROOM),

@@ -1,4 +1,4 @@
-//! The limits: each is taken, and one more is refused; what is written at most is what the longest hatch list makes.
+//! The limits: a call at each is answered, and a call one past it is refused. What is written at most is what the longest hatch list makes.
 
 use bagnoszyk::limits::*;
 use bagnoszyk::{Aabb2, Refusal, RefusalAt, Vec2, aabb2, edge2, hatch};
@@ -15,7 +15,7 @@ fn tiles(far: f32, size: usize, width: usize, height: usize) -> Result<usize, Re
     aabb2::overlapping_tiles(b, size, width, height, &mut [0; IMAGE_SIDE_MAX])
 }
 
-/// A hatch list of records that hit, the float 1 at each of their eight places.
+/// A hatch list of so many records of eight floats 1 each. Their lines hit.
 fn list(count: usize) -> Vec<u8> {
     let mut bytes = b"HSL\x01\0".to_vec();
     bytes.extend((count as u16).to_le_bytes());
@@ -49,7 +49,7 @@ fn coordinates() {
     assert_eq!(tiles(f32::INFINITY, 1, 8, 8), Err(Refusal::COORDINATE));
 }
 
-/// Each of a stroke's four coordinates in turn, by both walks, the bound and the ink; then what tells no place.
+/// Both walks, the bound and the ink with each of a stroke's four coordinates refused in turn; then refusals that tell no place.
 #[test]
 fn places() {
     let points = |[x0, y0, x1, y1]: [f32; 4]| (Vec2::from([x0, y0]), Vec2::from([x1, y1]));
@@ -116,7 +116,7 @@ fn the_longest_hatch_list() {
     assert_eq!(hatch::write_floats(&floats, &mut file), Ok(HATCH_BYTES_MAX));
     assert_eq!(file, longest);
     assert_eq!(hatch::write_floats(&floats, &mut file[1..]), Err(Refusal::ROOM));
-    floats.extend([1.0; 8]);
+    floats.extend([1.0; HATCH_RECORD_FLOATS]);
     assert_eq!(hatch::write_floats(&floats, &mut file), Err(Refusal::COUNT));
     assert_eq!(file, longest);
     floats.truncate(HATCH_FLOATS_MAX);

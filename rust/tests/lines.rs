@@ -1,11 +1,11 @@
-//! A whole face in one call: the single line routine's answers in turn, and nothing else touched.
+//! A whole face in one call: the answers of the routine for a line in turn, and no other entry changed.
 
 use bagnoszyk::limits::{LINE_FLOATS, LINE_RESULT_FLOATS};
 use bagnoszyk::{Aabb2, Refusal, Vec2, aabb};
 
 const FACE: Aabb2 = Aabb2 { min_x: 0.0, min_y: 0.0, max_x: 12.0, max_y: 8.0 };
 
-/// Stands in every entry before a call.
+/// What every entry holds before a call.
 const MARKED: f32 = -77.0;
 
 type Line = [f32; LINE_FLOATS];
@@ -26,7 +26,7 @@ fn lines() -> Vec<Line> {
     hatch.chain(others).collect()
 }
 
-/// What the single line routine answers, as the list of results has it.
+/// What the routine for a line answers, as the list of results has it.
 fn single(&[x, y, dx, dy]: &Line) -> [f32; LINE_RESULT_FLOATS] {
     match aabb::intersections_against_line(FACE, Vec2 { x, y }, Vec2 { x: dx, y: dy }) {
         Some(t) => [1.0, t.tmin, t.tmax],
@@ -42,7 +42,7 @@ fn call(floats: &[f32], room: usize) -> (Result<usize, Refusal>, Vec<f32>) {
 }
 
 #[test]
-fn the_answers_in_turn_and_the_rest_untouched() {
+fn the_answers_in_turn_and_the_rest_unchanged() {
     let lines = lines();
     for n in 0..=lines.len() {
         let floats = lines[..n].as_flattened();

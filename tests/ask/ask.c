@@ -4,14 +4,14 @@
 #include <stdlib.h>
 #include <string.h>
 
-/* Bytes behind a lent list that are looked at with it. */
+/* The bytes after a lent list that must stay as they are. */
 enum { GUARD = 64 };
 
 /* No routine lists more: every tile of the largest sheet. */
-static const uint64_t MOST_ENTRIES = UINT64_C(16384) * 16384;
+static const uint64_t MOST_ENTRIES = (uint64_t)BGZ_IMAGE_SIDE_MAX * BGZ_IMAGE_SIDE_MAX;
 
-/* The bytes of a hatch list before its records. */
-enum { HEADER = 7 };
+/* The bytes of a float in a hatch list, and of a hatch list those before its records. */
+enum { FLOAT_BYTES = 4, HEADER_BYTES = BGZ_HATCH_BYTES_MAX - FLOAT_BYTES * BGZ_HATCH_FLOATS_MAX };
 
 const size_t ask_sizes[4] = {
     sizeof(struct routine), sizeof(struct input), sizeof(struct reply), sizeof(struct request)};
@@ -31,7 +31,7 @@ size_t entry_size(char letter) {
     return letter == 'b' || letter == 'B' ? 1 : 4;
 }
 
-/* What a byte of a list is lent with. */
+/* What a byte of a list holds before the call, by its place. */
 static uint8_t filling(size_t place) {
     return (uint8_t)(0x5a ^ place ^ place >> 8);
 }
@@ -48,8 +48,8 @@ static uint8_t *lend(size_t bytes) {
 }
 
 /*
- * Whether more entries, of so many bytes, were written than there was room for, or a byte after those that were, the guard
- * among them.
+ * Whether the routine tells of more entries than there was room for, or a byte was changed after the entries that it tells
+ * of, in the list or in the guard behind it. An entry has `size` bytes.
  */
 static bool is_damaged(const uint8_t *list, size_t size, size_t written, size_t room) {
     if (written > room)
@@ -74,11 +74,11 @@ bool tells_place(const struct routine *routine, uint32_t status) {
 size_t entries_written(const struct routine *routine, const struct answer *answer) {
     for (size_t i = 0; routine->gives[i] != '\0'; i++)
         if (routine->gives[i] == 'l' || routine->gives[i] == 'e')
-            return answer->values[i].u * (routine->gives[i] == 'e' ? 8 : 1);
+            return answer->values[i].u * (routine->gives[i] == 'e' ? BGZ_HATCH_RECORD_FLOATS : 1);
     return 0;
 }
 
-/* The floats that are no list's, and the place of the first room among the whole numbers. */
+/* How many floats are not of a list, and the place of the first room among the whole numbers. */
 static size_t single_floats(const char *takes) {
     size_t count = 0;
     for (; *takes != '\0'; takes++)
@@ -94,18 +94,18 @@ static size_t place_of_room(const char *takes) {
 }
 
 /*
- * The length of the list to lend. A room for more than the routine can write is cut, with an entry to spare: one that
- * reads a list writes at most four entries for each of that list, and a header.
+ * The length of the list to lend: the room, cut where it exceeds all that can be written. A routine that reads a list
+ * writes at most four entries for each entry of that list, and the bytes of a header; one entry more is lent.
  */
 static size_t lent_length(const struct routine *routine, const struct input *input) {
     bool reads = strpbrk(routine->lists, "FPB") != NULL;
     uint64_t read = input->float_count + input->pattern_count + input->byte_count;
-    uint64_t most = reads ? HEADER + 4 * read + 1 : MOST_ENTRIES;
+    uint64_t most = reads ? HEADER_BYTES + FLOAT_BYTES * read + 1 : MOST_ENTRIES;
     uint64_t room = input->wholes[place_of_room(routine->takes)];
     return room < most ? room : most;
 }
 
-/* A list that is read. */
+/* The list that a routine reads, by its letter. */
 static struct list read_list(const struct routine *routine, const struct input *input, char letter) {
     size_t single = single_floats(routine->takes);
     if (letter == 'F')

@@ -1,4 +1,4 @@
-/* Asking a routine, by numbers and by text. docs/GUIDE.md ("Calling it") describes the text. */
+/* Calls a routine of the library by its row of the table, from numbers or from text. `./ask --help` describes the text. */
 #ifndef ASK_H
 #define ASK_H
 
@@ -24,20 +24,23 @@ struct reply {
     struct answer answer;
     /* The list that was lent, if one was, by its letter; the asker frees it. */
     void *list;
-    /* Something was touched that should not have been: an entry of a list, a lent shape in a refused call. */
+    /*
+     * The routine broke a rule of bagnoszyk.h: it told of more entries than there was room for, changed an entry that it
+     * should not have, or gave a number beside a refusal or none.
+     */
     bool damaged;
 };
 
 /* A request as it was read. */
 struct request {
     const struct routine *routine;
-    /* The reader of the request frees what it holds. */
+    /* Whoever calls read_request frees what it holds, with free_request. */
     struct input input;
     /* Why it is a bad request, if it is. */
     char reason[200];
 };
 
-/* The sizes of struct routine, input, reply and request: a program in another language must have the same. */
+/* The sizes of struct routine, input, reply and request, so that a program in another language can compare its own. */
 extern const size_t ask_sizes[4];
 
 /* The routine of this name, or null. */
@@ -56,7 +59,7 @@ size_t entry_size(char letter);
 /* How many entries an answer says were written to the first list. */
 size_t entries_written(const struct routine *routine, const struct answer *answer);
 
-/* Calls a routine. A list that it writes to is lent with a pattern in every entry, and looked at afterwards. */
+/* Calls a routine. A list that it writes to is lent with a pattern in every byte, which is compared afterwards. */
 struct reply ask(const struct routine *routine, const struct input *input);
 
 /* Reads a line, which is cut into its fields. False if it is a bad request: then there is a reason. */

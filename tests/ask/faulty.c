@@ -1,4 +1,7 @@
-/* Routines that do what none may, in the place of the library's: ./ask and the hostile calls must tell. */
+/*
+ * A table of routines that break the rules of bagnoszyk.h, in the place of the library's, and some that keep them: ./ask
+ * and the hostile calls must report the former and not the latter.
+ */
 #include "routines.h"
 #include "bagnoszyk.h"
 #include <string.h>
@@ -42,7 +45,7 @@ static void told_and_refused(const struct arguments *in, struct answer *out) {
     out->values[0].u = 1;
 }
 
-/* With the other refusal's place. */
+/* Refusal 4, which tells no place, with the place of refusal 3. */
 static void place_not_told(const struct arguments *in, struct answer *out) {
     refused_at(in, out);
     out->status = 4;
@@ -58,7 +61,7 @@ static void unknown_status(const struct arguments *in, struct answer *out) {
     out->status = last_refusal + 1;
 }
 
-/* Endless, but for who looks at the memory. */
+/* Does not end. The read is volatile, so that the compiler keeps the loop. */
 static void endless(const struct arguments *in, struct answer *out) {
     refused(in, out);
     while (*(volatile uint32_t *)&out->status != BGZ_ANSWERED)

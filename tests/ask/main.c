@@ -9,28 +9,42 @@ static const char HELP[] =
     "usage: ./ask [--decimal]               one request a line on standard input, one answer a line on standard output\n"
     "       ./ask [--decimal] NAME FIELD..  one request\n"
     "       ./ask --list                    the names, each with its fields\n"
+    "       ./ask --help                    this text\n"
     "\n"
-    "A request is a routine's name and its fields, one space apart.\n"
+    "A request is a routine's name and its fields, one space apart. The name MODULE.ROUTINE stands for bgz_MODULE_ROUTINE\n"
+    "of bagnoszyk.h, and every routine has one but bgz_hatch_report. These are shorter: aabb.line, aabb.ray, aabb_3.line\n"
+    "and aabb_3.ray for intersections_against_line and .._ray, aabb.lines for intersections_against_lines, aabb.include\n"
+    "and aabb_3.include for is_include_point, aabb3.is_possible_distance for\n"
+    "is_possible_distance_to_aabb2_smaller_than_threshold, hatch.read and hatch.write for read_patterns and write_patterns.\n"
+    "\n"
+    "A field is one of these:\n"
     "  float         eight hexadecimal digits of its bits, 3fc00000, or a decimal: 1.5, -0.25, 1e9, 12. Digits alone\n"
     "                are a decimal if there are at most six, and bits if there are eight; 1048576 is written 1048576.0.\n"
     "                Infinity and NaN are given as bits: 7f800000, 7fc00000.\n"
-    "  whole number  decimal; marked :u in the list. A room is the length of the list that is lent to the routine, in\n"
-    "                entries: floats for hatch.read, bytes for hatch.write. One for more than there can be is cut.\n"
-    "  list          any number of floats, marked :f* in the list; or of the bits of floats, eight digits each, which are\n"
+    "  whole number  decimal; marked :u by --list. The one named room is the length of the list that the routine is lent\n"
+    "                to write to, in entries: floats for hatch.read, bytes for hatch.write. It may be any; what exceeds\n"
+    "                all that can be written is cut.\n"
+    "  list          any number of floats, marked :f* by --list; or of the bits of floats, eight digits each, which are\n"
     "                kept as they are: marked :p*.\n"
-    "  bytes         one word, two hexadecimal digits a byte, - for none; marked :b in the list.\n"
+    "  bytes         one word, two hexadecimal digits a byte, - for none; marked :b by --list.\n"
     "A point is x y; a range low high; an upright box min_x min_y max_x max_y; a turned box its centre cx cy and two\n"
-    "half edges ux uy vx vy; a matrix nine numbers, column by column.\n"
+    "half edges ux uy vx vy; a matrix nine numbers, column by column. In space a point is x y z, an upright box\n"
+    "min_x min_y min_z max_x max_y max_z, a turned box its centre and three half edges. aabb3.set_as_cube takes a box\n"
+    "first, on which nothing depends.\n"
     "\n"
-    "An answer is floats as bits, any zero as 00000000 and any NaN as nan, or as decimals with --decimal; whole numbers;\n"
-    "1 for yes and 0 for no; a list as its count and its entries, bytes as one word; none; 'refused N', by the numbers of\n"
-    "bagnoszyk.h, with the place after it where the refusal tells one; 'damaged' if a lent list was touched where it\n"
-    "should not have been. hatch.read and hatch.write are bgz_hatch_read_patterns and bgz_hatch_write_patterns: they keep\n"
-    "the bits of floats, eight a record, as they are, with --decimal too; hatch.write_floats writes any NaN as 7fc00000.\n"
-    "What reads a hatch list answers its version and the list, what writes one its bytes.\n"
-    "What is no request is answered 'bad request', and standard error says why.\n"
+    "An answer is one of these:\n"
+    "  numbers       a float as its bits, any zero as 00000000 and any NaN as nan, or with --decimal in decimal; whole\n"
+    "                numbers in decimal; 1 for yes and 0 for no.\n"
+    "  a list        its count and its entries, bytes as one word. What reads a hatch list gives the version first.\n"
+    "  none          there is none of what was asked for.\n"
+    "  refused N     by the numbers of bagnoszyk.h, with the place after it where the refusal tells one.\n"
+    "  bad request   the routine was not called, and standard error says why.\n"
+    "  damaged       the routine changed an entry that it should not have, told of more entries than there was room for,\n"
+    "                or gave numbers beside a refusal: a fault of the library.\n"
+    "hatch.read and hatch.write keep the bits of floats as they are, with --decimal too. hatch.read_floats gives floats, and\n"
+    "hatch.write_floats writes any NaN as 7fc00000.\n"
     "\n"
-    "Exit status: 0; 1 if a request given as arguments is bad, or reading or writing fails.\n"
+    "Exit status: 0; 1 if a request given as arguments is bad, an option is unknown, or reading or writing fails.\n"
     "\n"
     "  ./ask --decimal aabb.line 0 0 4 2 6 -1 -1 1                        answers: 2 3\n"
     "  ./ask --decimal aabb.lines 0 0 4 2 6 6 -1 -1 1 6 -1 1 1            answers: 6 1 2 3 0 0 0, with room for six\n"
@@ -44,7 +58,7 @@ static void fail(const char *what) {
     exit(EXIT_FAILURE);
 }
 
-/* Says a text on standard error, with \xNN for a byte that is no visible character or space of ASCII. */
+/* Writes a text to standard error, with \xNN for a byte that is no visible character of ASCII and no space. */
 static void say(const char *text) {
     for (; *text != '\0'; text++) {
         unsigned char byte = (unsigned char)*text;
@@ -52,7 +66,7 @@ static void say(const char *text) {
     }
 }
 
-/* What stands after a field's name in the list. */
+/* What --list prints after a field's name. */
 static const char *mark_of(char letter) {
     switch (letter) {
     case 'f': return "";
@@ -78,7 +92,7 @@ static void print_list(void) {
     }
 }
 
-/* Without waiting for more: whoever asks may wait for this answer before the next request. */
+/* Each answer is written at once: whoever asks may wait for it before the next request. */
 static void print_answer(const char *text) {
     if (puts(text) == EOF || fflush(stdout) == EOF)
         fail("write the answers");
@@ -133,7 +147,7 @@ static char *joined(char **words) {
     return line;
 }
 
-/* Does what an option that stands alone asks for. */
+/* Serves an option that stands alone. */
 static void obey(const char *option) {
     if (strcmp(option, "--help") == 0 || strcmp(option, "-h") == 0)
         fputs(HELP, stdout);
@@ -151,7 +165,7 @@ static void obey(const char *option) {
 
 int main(int argc, char **argv) {
     (void)argc;
-    /* A message is written in one piece. */
+    /* A message on standard error is written line by line, not character by character. */
     setvbuf(stderr, NULL, _IOLBF, BUFSIZ);
     char **word = argv + 1;
     bool good = true, decimal = false;

@@ -8,7 +8,7 @@
 #include <stddef.h>
 #include <stdint.h>
 
-/* What a routine may have of each; tests/generate holds the table to it. */
+/* The most that a routine has of each. tests/generate refuses a routine that has more. */
 enum { MOST_FLOATS = 24, MOST_WHOLES = 8, MOST_LISTS = 3, MOST_VALUES = 24 };
 
 /* A list as C hands it over: its start and the number of its entries. */
@@ -31,7 +31,7 @@ union value {
     int64_t i;
 };
 
-/* Status and place are those of bagnoszyk.h. A routine that has no status answers always; one with no place leaves the 0. */
+/* Status and place are those of bagnoszyk.h. Of a routine without a status the status is 0, of one without a place the place. */
 struct answer {
     uint32_t status;
     uint64_t place;
@@ -61,7 +61,7 @@ struct routine {
     const char *gives;
     /* A name for each letter of `takes`, one space apart. */
     const char *fields;
-    /* The refusals that tell a place, each by the bit of its number. */
+    /* The refusals that tell a place: bit N is set if refusal N does. */
     uint32_t places;
 };
 

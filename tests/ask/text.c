@@ -21,8 +21,8 @@ static const char NO_FLOAT[] = "neither eight hexadecimal digits nor a decimal: 
 
 /*
  * Null, or what the field is instead of a float. Eight hexadecimal digits are a float's bits; anything else is a decimal.
- * Seven of them, or nine and more, are neither: those are more likely bits with a digit lost or added, and a decimal has
- * another way to be written, with a point.
+ * Seven hexadecimal digits, or nine and more, are neither: more likely a digit of the bits was lost or added. A decimal of
+ * so many digits can be written with a point.
  */
 static const char *read_float(const char *field, float *x) {
     size_t length = strlen(field);
@@ -208,7 +208,7 @@ void free_request(struct request *request) {
 
 /* ---- as text */
 
-/* A stream into memory, whose text is handed on when it is closed. */
+/* A stream into memory; text and length are set when it is closed. */
 static FILE *open_text(char **text, size_t *length) {
     FILE *out = open_memstream(text, length);
     if (out == NULL) {

@@ -56,7 +56,7 @@ static void place(struct caller *caller, size_t i, size_t length) {
     list->start = fence_place(&caller->fences[i], bytes_of(caller, i), random_below(&caller->random, 2) == 0);
 }
 
-/* What a list that is read holds, made first in its copy. */
+/* Makes a list that is read: its entries in a copy first, then in its place beside a fence's page. */
 static void make_read(struct caller *caller, size_t i, bool large) {
     unsigned char *copy = caller->copies[i];
     size_t length;
@@ -85,7 +85,7 @@ static void mark_written(struct caller *caller) {
 
 /* ---- answers */
 
-/* Whether it tells how many entries of the first list it wrote. */
+/* Whether a routine tells how many entries of its first list it wrote. */
 static bool tells_written(const struct routine *routine) {
     return strpbrk(routine->gives, "le") != NULL;
 }
@@ -97,11 +97,11 @@ static size_t written(const struct caller *caller, const struct answer *out, siz
         return 0;
     if (tells_written(caller->routine))
         return entries_written(caller->routine, out);
-    /* A report tells its length in bytes; what it reads on the way may fill the list lent for it. */
+    /* A report tells the bytes of the whole text, which may be more than the list has. */
     return caller->routine->lists[i] == 'b' && out->values[0].u < length ? out->values[0].u : length;
 }
 
-/* A known status; nothing beside a refusal; lists as they were but for what was to be written. */
+/* Checks an answer: a known status, no number beside a refusal, and no change in a list but in the entries to be written. */
 static void look(const struct caller *caller, const struct answer *out) {
     const struct routine *routine = caller->routine;
     hold(caller, out->status <= last_refusal || out->status == BGZ_NONE, "a status that the header does not have");
@@ -125,7 +125,7 @@ static void mix(uint64_t *digest, uint64_t value) {
     *digest ^= *digest >> 29;
 }
 
-/* A NaN may have any bits. */
+/* All NaNs count alike: a NaN may have any bits. */
 static void mix_float(uint64_t *digest, float x) {
     uint32_t bits;
     memcpy(&bits, &x, sizeof bits);
@@ -158,7 +158,7 @@ static void digest(struct caller *caller, const struct answer *out) {
 
 /* ---- calls */
 
-/* What is handed in: an empty list now by its place, now by a null pointer. */
+/* What is handed in: half of the empty lists by a null pointer. */
 static struct arguments handed(struct caller *caller) {
     struct arguments in = caller->in;
     in.floats = caller->floats;
@@ -182,7 +182,7 @@ static struct answer call(struct caller *caller) {
     return out;
 }
 
-/* Once more with just enough room, and with one entry less, which must be refused. */
+/* Calls once more with just enough room, and then with room for one entry less, which must be refused. */
 static void call_again_with_room(struct caller *caller, struct answer first) {
     size_t count = written(caller, &first, 0);
     place(caller, 0, count);
@@ -207,7 +207,7 @@ void call_often(struct caller *caller, const struct routine *routine, uint64_t c
         hostile_floats(&caller->random, caller->floats, MOST_FLOATS);
         for (size_t i = 0; i < MOST_WHOLES; i++)
             caller->wholes[i] = hostile_whole(&caller->random);
-        /* Hatch lists of as many records as there can be, and lists with room for all of them. */
+        /* One time in a thousand: hatch lists of as many records as there can be, and the longest lists. */
         bool large = random_below(&caller->random, 1000) == 0;
         for (size_t i = 0; routine->lists[i] != '\0'; i++) {
             size_t most = FENCED / entry_size(routine->lists[i]);

@@ -1,4 +1,4 @@
-/* One hostile call after another, each looked at. */
+/* Makes hostile calls one after another, and checks each. */
 #ifndef CALLS_H
 #define CALLS_H
 
@@ -6,10 +6,10 @@
 #include "fence.h"
 #include "inputs.h"
 
-/* A caller: what it hands in at present, and a digest of all that it was answered. */
+/* A caller: what it hands in with the present call, and a digest of all answers so far. */
 struct caller {
     struct random random;
-    /* What the processor does with floats during a call. */
+    /* The processor's MXCSR register during a call: how it rounds, and what it does with subnormal numbers. */
     unsigned mxcsr;
     const struct routine *routine;
     float floats[MOST_FLOATS];
@@ -22,11 +22,14 @@ struct caller {
 
 void caller_start(struct caller *caller, uint64_t seed, unsigned mxcsr);
 
-/* Calls a routine so many times, or once as a request has it. The program ends where something is wrong. */
+/*
+ * Calls a routine so many times with random inputs, or once as a request has it. The program ends at the first call that is
+ * wrong.
+ */
 void call_often(struct caller *caller, const struct routine *routine, uint64_t count);
 void call_with(struct caller *caller, const struct request *request);
 
-/* Says what a caller hands in at present. */
+/* Writes to standard error what a caller hands in with the present call. */
 void tell(const struct caller *caller, const char *what);
 
 #endif

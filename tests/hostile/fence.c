@@ -25,7 +25,7 @@ static unsigned char pattern(size_t i) {
     return (unsigned char)(0xa5 ^ i * 7);
 }
 
-/* The guard is on the side that has no page. */
+/* The guard is at the end that is not beside a page. */
 static unsigned char *guard(const struct fence *fence, const unsigned char *place, size_t bytes) {
     unsigned char *start = fence->start + (place - fence->start);
     return start == fence->start ? start + bytes : start - GUARD;

@@ -1,16 +1,16 @@
 /*
- * Hostile calls of every exported function: each must end, write where it may and nowhere else, and answer the same in
- * every thread.
+ * Makes hostile calls of every exported function: inputs on which float code errs, limits, lists of any length. Each call
+ * must end, write only where the header says, and answer the same in every thread.
  *
  *   hostile [OPTION VALUE]..
  *
  *   --count N        calls of each function with random inputs
  *   --seed S         decides the inputs
- *   --state NAME     the processor's state, one of STATES; all of them, one after another, if it is not given
+ *   --state NAME     the processor's state, one of STATES below; all of them, one after another, if it is not given
  *   --threads N      so many threads, each with the same inputs
  *   --only PREFIX    the functions whose names begin so
  *   --requests FILE  requests to be made first, one a line
- *   --limit SECONDS  for the calls of one function: a call that does not end fails
+ *   --limit SECONDS  for all calls of one function: if they take longer, the program fails
  */
 #define _POSIX_C_SOURCE 200809L
 #include "calls.h"
@@ -24,7 +24,10 @@
 
 enum { MOST_THREADS = 64 };
 
-/* The library is for the first state. In the others its answers mean nothing, but calls end and keep to their lists. */
+/*
+ * The header asks for the first state, in which a program starts. In the others answers may be others, but calls must end
+ * and keep to their lists.
+ */
 static const struct state {
     const char *name;
     unsigned mxcsr;
@@ -32,7 +35,7 @@ static const struct state {
     {"usual", 0x1f80},
     {"ftz", 0x9f80},     /* a subnormal result becomes 0 */
     {"daz", 0x1fc0},     /* a subnormal operand counts as 0 */
-    {"ftz+daz", 0x9fc0}, /* both, as a program linked with -ffast-math has it */
+    {"ftz+daz", 0x9fc0}, /* both, as in a program linked with -ffast-math */
     {"down", 0x3f80},    /* rounding to minus infinity */
     {"up", 0x5f80},      /* to plus infinity */
     {"zero", 0x7f80},    /* to zero */
@@ -45,9 +48,9 @@ static struct options {
 
 static struct caller *callers[MOST_THREADS];
 
-/* A call hangs, or touches a page beside a list. */
+/* A call does not end, or reads or writes a page beside a list. */
 static void stopped(int signal_number) {
-    fputs(signal_number == SIGALRM ? "no end within the limit\n" : "a touch beside a list\n", stderr);
+    fputs(signal_number == SIGALRM ? "no end within the limit\n" : "a read or write beside a list\n", stderr);
     for (size_t i = 0; i < options.threads; i++)
         tell(callers[i], "at work");
     _exit(1);

@@ -17,7 +17,10 @@ uint64_t random_below(struct random *random, uint64_t n) {
 
 /* ---- floats */
 
-/* Both ends of each class, by their bits without the sign: zero, subnormal, normal, infinite, signalling and quiet NaN. */
+/*
+ * The least and the greatest of each class, and some between, by their bits without the sign: zero, subnormal, normal,
+ * infinite, signalling and quiet NaN.
+ */
 static const uint32_t CLASSES[] = {
     0x00000000, 0x00000001, 0x00000002, 0x00400000, 0x007fffff, 0x00800000, 0x00800001, 0x7f7fffff,
     0x7f800000, 0x7f800001, 0x7fa00000, 0x7fbfffff, 0x7fc00000, 0x7fc00001, 0x7fffffff,
@@ -59,21 +62,24 @@ static float of_any_class(struct random *random) {
     return random_below(random, 2) == 0 ? x : -x;
 }
 
-/* All floats of an input come from one place, so that strokes, boxes and lines of each size are met, not only refusals. */
+/*
+ * Most floats of an input are of one kind, so that strokes, boxes and lines of each size occur, and not refusals alone. One
+ * in six is an earlier float once more.
+ */
 void hostile_floats(struct random *random, float *floats, size_t count) {
-    uint64_t place = random_below(random, 6);
+    uint64_t kind = random_below(random, 6);
     for (size_t i = 0; i < count; i++) {
         uint32_t bits = (uint32_t)random_bits(random);
         uint32_t sign = bits & 0x80000000;
-        switch (i > 0 && random_below(random, 6) == 0 ? 6 : place) {
+        switch (i > 0 && random_below(random, 6) == 0 ? 6 : kind) {
         case 0: floats[i] = from_bits(bits); break;
         /* A drawing in quarters. */
         case 1: floats[i] = ((float)random_below(random, 257) - 128) / 4; break;
-        /* Where numbers turn subnormal, and differences do. */
+        /* Near the least normal number: their differences are subnormal. */
         case 2: floats[i] = from_bits(sign | (0x00780000 + (bits & 0x000fffff))); break;
-        /* Within the limits of strokes and tiles, any exponent as often as another. */
+        /* Within the limit of a stroke's coordinates, each exponent as often as another. */
         case 3: floats[i] = from_bits(sign | (bits & 0x7fffffff) % 0x47800001); break;
-        /* One more time a float that is there. */
+        /* An earlier float once more. */
         case 6: floats[i] = floats[random_below(random, i)]; break;
         default: floats[i] = of_any_class(random); break;
         }
@@ -92,7 +98,7 @@ uint64_t hostile_whole(struct random *random) {
     uint64_t bits = random_bits(random);
     switch (random_below(random, 4)) {
     case 0: return WHOLES[bits % COUNT(WHOLES)];
-    /* Of any length, short ones as often as long ones. */
+    /* Any number of binary digits, few as often as many. */
     case 1: return bits >> random_below(random, 64);
     default: return bits % 64;
     }
@@ -128,7 +134,7 @@ size_t hostile_bytes(struct random *random, uint8_t *bytes, bool large) {
     uint64_t bits = random_bits(random);
     switch (random_below(random, 6)) {
     case 0: bytes[bits % length] = (uint8_t)(bits >> 32); break;
-    /* The header is short, and decides most. */
+    /* A byte of the header, on which most refusals depend. */
     case 1: bytes[bits % 7] = (uint8_t)(bits >> 32); break;
     case 2: length = bits % length; break;
     case 3: length++; break;

@@ -1,4 +1,4 @@
-/* Inputs on which float code goes wrong, the same ones for the same seed. */
+/* Random inputs on which float code errs, the same for the same seed. */
 #ifndef INPUTS_H
 #define INPUTS_H
 
@@ -10,7 +10,7 @@ struct random {
     uint64_t state;
 };
 
-/* 64 random bits, and a whole number below n. */
+/* 64 random bits; and a random whole number below n. */
 uint64_t random_bits(struct random *random);
 uint64_t random_below(struct random *random, uint64_t n);
 
@@ -20,10 +20,16 @@ uint64_t hostile_whole(struct random *random);
 /* The length of a list: most often none, one or few entries, and at most `most`. */
 size_t hostile_length(struct random *random, size_t most);
 
-/* The floats of few records, or of 2,000 and 2,001, and at times some more that make no record; how many they are. */
+/*
+ * Makes the floats of few records, or if `large` of 2,000 or 2,001, and at times some more that make no record. Returns how
+ * many floats they are.
+ */
 size_t hostile_records(struct random *random, float *floats, bool large);
 
-/* The bytes of a hatch list of few records, or of 2,000, good or damaged; how many they are, which is at most 64,008. */
+/*
+ * Makes the bytes of a hatch list of few records, or if `large` of 2,000, good or damaged. Returns how many bytes they are,
+ * at most 64,008.
+ */
 size_t hostile_bytes(struct random *random, uint8_t *bytes, bool large);
 
 #endif

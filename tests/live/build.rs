@@ -1,8 +1,8 @@
-//! Links libask.a, which tests/ask/build writes: the library behind one table.
+//! Links libask.a, which tests/ask/build writes: the library's functions behind one table.
 
 use std::env;
 
-/// Names the folder of libask.a.
+/// The environment variable that names the folder of libask.a.
 const FOLDER: &str = "BAGNOSZYK_ASK";
 
 fn main() {

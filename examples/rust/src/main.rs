@@ -1,18 +1,24 @@
-//! Clips a hatch list line by line, and one of its faces in one call, and makes the bytes to save with a line corrected;
-//! then lists the pixels of two strokes and the tiles of a box.
+//! Clips a hatch list line by line, and one of its faces in one call, and makes the bytes to save with a line corrected.
+//! Then lists the pixels of pen strokes and the tiles of a box, and shows two refusals.
 //!
 //! ```text
 //! ./install PREFIX
 //! cd examples/rust
 //! BAGNOSZYK_STATICLIB=PREFIX/lib cargo run -- ../section.hsl
 //! ```
+//!
+//! PREFIX is a whole path, from the root on.
 
 use bagnoszyk::limits::{
-    HATCH_BYTES_MAX, HATCH_FLOATS_MAX, HATCH_RECORD_FLOATS, LINE_RESULT_FLOATS,
+    HATCH_BYTES_MAX, HATCH_FLOATS_MAX, HATCH_RECORD_FLOATS as RECORD, LINE_FLOATS,
+    LINE_RESULT_FLOATS,
 };
 use bagnoszyk::{Aabb2, Interval, Refusal, RefusalAt, Vec2, aabb, aabb2, edge2, hatch};
 use std::process::ExitCode;
 use std::{env, fs};
+
+/// The place of a direction's x in a record: the box's floats stand first, then the line's, its point and its direction.
+const DIRECTION_X: usize = RECORD - LINE_FLOATS + 2;
 
 /// A hatch line, and the box of the face that it fills.
 struct Line {
@@ -22,13 +28,13 @@ struct Line {
 }
 
 impl Line {
-    fn new(record: &[f32; 8]) -> Self {
+    fn new(record: &[f32; RECORD]) -> Self {
         let [min_x, min_y, max_x, max_y, x, y, dx, dy] = *record;
         let face = Aabb2 { min_x, min_y, max_x, max_y };
         Line { face, origin: Vec2 { x, y }, direction: Vec2 { x: dx, y: dy } }
     }
 
-    /// The bits of its box, which are equal where the face is the same, of a NaN too.
+    /// The bits of its box. A box equals itself by them, one with a NaN too.
     fn face_bits(&self) -> [u32; 4] {
         <[f32; 4]>::from(self.face).map(f32::to_bits)
     }
@@ -53,7 +59,7 @@ impl Line {
     }
 }
 
-/// The ends of the first line that does more than touch its box.
+/// Prints the ends of the first of these lines that does more than touch its box.
 fn print_first(kind: &str, lines: &[&Line]) {
     let found = lines.iter().find_map(|line| {
         let Interval { tmin, tmax } = line.clip()?;
@@ -74,7 +80,7 @@ fn print_section(lines: &[Line]) {
     print_first("falling", &falling);
 }
 
-/// All lines of the first record's face, in one call.
+/// Clips all lines of the first record's face in one call.
 fn print_face(lines: &[Line]) -> Result<(), Refusal> {
     let Some(first) = lines.first() else { return Ok(()) };
     let of_face = lines.iter().filter(|line| line.face_bits() == first.face_bits());
@@ -92,13 +98,13 @@ fn print_face(lines: &[Line]) -> Result<(), Refusal> {
 }
 
 /// Negates the direction's x of the first record, so that its line leans the other way, and makes the bytes to store. Records are saved by
-/// their bits: what is not corrected stays as it was, byte for byte. There is a record.
+/// their bits: what is not corrected stays as it was, byte for byte. The bytes are those of a list that has a record.
 fn print_saved(bytes: &[u8]) -> Result<(), RefusalAt> {
     let mut patterns = vec![0; HATCH_FLOATS_MAX];
     let count = hatch::read_patterns(bytes, &mut patterns)?.count;
-    patterns[6] = (-f32::from_bits(patterns[6])).to_bits();
+    patterns[DIRECTION_X] = (-f32::from_bits(patterns[DIRECTION_X])).to_bits();
     let mut saved = vec![0; HATCH_BYTES_MAX];
-    let size = hatch::write_patterns(&patterns[..HATCH_RECORD_FLOATS * count], &mut saved)?;
+    let size = hatch::write_patterns(&patterns[..RECORD * count], &mut saved)?;
     let changed = saved[..size].iter().zip(bytes).filter(|(new, old)| new != old).count();
     println!("to save: {size} bytes, {changed} changed");
     Ok(())
@@ -112,7 +118,7 @@ fn print_list(what: &str, list: &[u32]) {
 fn run(bytes: &[u8]) -> Result<(), RefusalAt> {
     let mut floats = vec![0.0; HATCH_FLOATS_MAX];
     let count = hatch::read_floats(bytes, &mut floats)?.count;
-    let records = floats.chunks_exact(8).take(count).filter_map(<[f32]>::first_chunk);
+    let records = floats.chunks_exact(RECORD).take(count).filter_map(<[f32]>::first_chunk);
     let lines: Vec<_> = records.map(Line::new).collect();
     print_section(&lines);
     print_face(&lines)?;
@@ -128,8 +134,8 @@ fn run(bytes: &[u8]) -> Result<(), RefusalAt> {
         print_list(&format!("{kind} stroke"), &list[..count]);
     }
 
-    // Along a row to the right margin: the closing entry is the next row's first pixel, which the stroke does not cross. Without it all entries
-    // lie in the image. How many there are at most is known beforehand.
+    // A stroke along a row to the right margin: the closing entry is the next row's first pixel, which the stroke does not cross. Without it each
+    // entry is a pixel of the image. How many entries there are at most is known beforehand.
     let (in_row, at_margin) = (Vec2 { x: 4.5, y: 2.5 }, Vec2 { x: 7.5, y: 2.5 });
     let count = edge2::overlapping_pixels_dda(8, 8, in_row, at_margin, &mut list)?;
     print_list("stroke to the margin", &list[..count]);
@@ -137,7 +143,7 @@ fn run(bytes: &[u8]) -> Result<(), RefusalAt> {
     print_list("its pixels inside", &list[..count]);
     println!("entries at most: {}", edge2::pixels_bound(8, 8, in_row, at_margin)?);
 
-    // A stroke to a point that is not there: refused, and the place tells which of the four coordinates it is.
+    // A stroke to a point whose x is a NaN is refused, and the place tells which of the four coordinates it is.
     let (start, nowhere) = (Vec2 { x: 0.5, y: 0.5 }, Vec2 { x: f32::NAN, y: 3.5 });
     if let Err(RefusalAt { refusal, place: Some(place) }) =
         edge2::overlapping_pixels_dda(8, 8, start, nowhere, &mut list)
@@ -150,7 +156,7 @@ fn run(bytes: &[u8]) -> Result<(), RefusalAt> {
     let count = aabb2::overlapping_tiles(face, 16, 4, 3, &mut list)?;
     print_list("tiles", &list[..count]);
 
-    // The same with a list that is one entry too short: the call is refused, and the list keeps its entries.
+    // The same with a list that is an entry too short: the call is refused, and the list keeps its entries.
     let mut kept = [9; 5];
     if let Err(refusal) = aabb2::overlapping_tiles(face, 16, 4, 3, &mut kept) {
         println!("refusal: {}", refusal.number());

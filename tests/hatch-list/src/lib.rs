@@ -1,5 +1,5 @@
-//! Document 01's hatch list with document 02's places, read and written plainly: what the library's reader and writer are compared with, and
-//! timed against.
+//! The hatch list of docs/FORMAT.md, read and written plainly in Rust, with nothing of the library in it. The library's reader and writer are
+//! compared with it, and timed against it.
 
 pub struct Records<'a> {
     pub version: usize,

@@ -1,11 +1,11 @@
-//! Writes the list of modules, each the Rust's own file where it stands.
+//! Writes the list of modules. Each is the Rust's own file, in the folder that DEL_GEO_CORE names.
 
 use std::{env, fs, path::Path};
 
-/// Names the folder of the Rust's source files.
+/// The environment variable that names the folder of the Rust's source files.
 const FOLDER: &str = "DEL_GEO_CORE";
 
-/// The 2D part and the boxes of space, and what they mention of the rest.
+/// The files that the library is compared with, and those that they name.
 const MODULES: [&str; 11] = [
     "aabb",
     "aabb2",

@@ -1,6 +1,6 @@
 //! All inputs of the routines of one float.
 //!
-//! Each loop is compiled for its own routine, so that the calls take the time and the tables do not.
+//! Each loop is compiled for its own routine: a call through the tables of `ask` and `judge` would take longer than the routine.
 
 use crate::answer::same_number;
 use crate::ask::Args;
@@ -12,7 +12,7 @@ use num_traits::float::Float;
 use std::thread;
 use std::time::Instant;
 
-/// A routine of one float, and the search for an input on which the library differs from the judge.
+/// A routine of one float, and the search for an input on which the library differs from what it is compared with.
 type Search = (&'static str, fn() -> Option<f32>);
 
 const SEARCHES: &[Search] = &[
@@ -44,14 +44,14 @@ pub fn run(options: &Options) -> Result<(), String> {
     Ok(())
 }
 
-/// The library's root and digits beside the judge's.
+/// Whether root and digits are those by integer square roots.
 fn same_root(x: f32) -> bool {
     let (ours, (root, digits)) = (ours::sqrt_digits(x), judge::sqrt_digits(x));
     same_number(ours.root, root) && ours.digits == digits
 }
 
-/// An input on which the answers are not alike. The inputs are cut into 256 parts that the threads
-/// take in turn: one thread would have all the quick ones if each took a single stretch.
+/// An input on which the answers are not alike. The inputs are cut into 256 parts, which the threads
+/// take in turn: inputs near one another take a like time, so single stretches would end far apart.
 fn difference(alike: impl Fn(f32) -> bool + Sync) -> Option<f32> {
     let threads = thread::available_parallelism().map_or(1, |n| n.get());
     let alike = &alike;

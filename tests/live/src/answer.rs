@@ -1,4 +1,4 @@
-//! An answer, the library's or the Rust's, such that equal answers compare equal: all zeros are one, and all NaNs.
+//! An answer, the library's or the Rust's. Answers compare equal if their numbers do, with zeros of either sign equal, and all NaNs equal.
 
 /// A refusal; its place is 0 where it tells none.
 pub use hatch_list::Refused;
@@ -13,14 +13,14 @@ const NONE: u32 = 255;
 pub struct Answer {
     /// 0, 255 for none, or a refusal's number.
     pub status: u32,
-    /// That of a refusal which tells one.
+    /// The place, if a refusal tells one, and else 0.
     pub place: u64,
     count: usize,
     /// Floats by their bits, whole numbers as they are, negative ones in two's complement.
     values: [u64; MOST_VALUES],
     /// What was written to a lent list, floats by their bits, bytes as numbers; its count is the last number.
     pub list: Vec<u32>,
-    /// A lent list was touched where it should not have been.
+    /// The library broke a rule of its header (tests/ask/ask.h).
     pub damaged: bool,
 }
 
@@ -49,7 +49,7 @@ impl Answer {
     }
 }
 
-/// The bits of a float; one pattern for all zeros, and one for all NaNs.
+/// The bits of a float, with one pattern for both zeros and one for all NaNs.
 pub fn bits(x: f32) -> u32 {
     // Adding +0 turns -0 into +0 and changes no other number.
     if x.is_nan() { f32::NAN } else { x + 0.0 }.to_bits()

@@ -1,10 +1,10 @@
-//! The library, asked through the table that ./ask has: numbers in, numbers out. Only what is printed goes through text.
+//! The library, called through the table of ./ask, by numbers. Only what is printed goes through text.
 
 use crate::answer::{Answer, MOST_VALUES, bits};
 use std::ffi::{CStr, CString, c_char, c_void};
 use std::{ptr, slice};
 
-/// The arguments of a request: its floats in their order, its whole numbers in theirs, rooms among them, the bits of floats, and its
+/// The arguments of a request: its floats in their order, its whole numbers in theirs, rooms among them, the bits of floats of a list, and its
 /// bytes.
 #[derive(Clone, Debug, Default)]
 pub struct Args {
@@ -184,7 +184,7 @@ impl Routine {
         unsafe { CStr::from_ptr(self.lists) }.to_bytes().first()
     }
 
-    /// The first entries of that list, such that equal ones compare equal.
+    /// The first entries of that list: floats by their bits, with one pattern for both zeros and one for all NaNs.
     fn entries(&self, list: *const c_void, count: usize) -> Vec<u32> {
         if self.list() == Some(&b'b') {
             let bytes = unsafe { slice::from_raw_parts(list.cast::<u8>(), count) };

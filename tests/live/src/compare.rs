@@ -1,5 +1,5 @@
-//! Random inputs for each routine, the places of refusals, strokes along margins, every exact root, hatch lists written and read, reports on
-//! them, and the tiles by brute force.
+//! The run of the gate: the figures, random inputs for each routine, the places of refusals, strokes along margins, every exact root, hatch lists
+//! written and read, reports on them, and the tiles by brute force.
 
 use crate::cover;
 use crate::figures;

@@ -1,5 +1,7 @@
-//! Demand 3 of the request, by brute force on small sheets: the tiles listed are exactly the owners of the points
-//! to be covered. Comparison is exact: an f32, and a product of two small whole numbers, is an f64 exactly.
+//! The tiles by brute force on small sheets: those listed are exactly those that own a point to be covered, a point
+//! of the box that is on the sheet (crates/tiles/specs/Cover.antt). Column i owns x from i × size up to and without
+//! (i + 1) × size, rows likewise. Comparison is exact: an f32, and a product of two small whole numbers, is an f64
+//! exactly.
 
 use crate::options::Options;
 use bagnoszyk::aabb2::overlapping_tiles;
@@ -16,7 +18,7 @@ pub fn run(_: &Options) -> Result<(), String> {
         for width in SIDES {
             for height in SIDES {
                 for (i, x) in ranges.iter().enumerate() {
-                    // A different range in y each time, so that both dimensions meet every class.
+                    // Another range in y, so that both dimensions have coordinates of every class.
                     let y = &ranges[(i * 7 + width + height) % ranges.len()];
                     check([x.0, y.0, x.1, y.1], size, [width, height], &places)?;
                     boxes += 1;
@@ -83,8 +85,8 @@ fn owner(x: f32, size: usize, side: usize) -> Option<usize> {
     (0..side).find(|i| edge(*i) <= x.into() && f64::from(x) < edge(i + 1))
 }
 
-/// Why the premises leave out what is smaller than 2^-100: -2^-149 over 4,096 rounds to -0, and column 0 is listed
-/// though no point of the box is on the sheet.
+/// Why the theorem on the cover leaves out coordinates that are not zero and below 2^-100 in size: -2^-149 over 4,096
+/// rounds to -0, and tile 0 is listed though no point of the box is on the sheet.
 fn tiny() -> Result<(), String> {
     let corner = -f32::from_bits(1);
     let mut list = [7; 1];
@@ -93,7 +95,7 @@ fn tiny() -> Result<(), String> {
         return Err(format!("high corner -2^-149, size 4096: {count:?} {list:?}"));
     }
     println!(
-        "high corner -2^-149 with size 4096 lists tile 0, which owns no point of the box: hence the premise of 2^-100"
+        "high corner -2^-149 with size 4096 lists tile 0, which owns no point of the box: the theorem leaves out coordinates that are not 0 and below 2^-100 in size"
     );
     Ok(())
 }

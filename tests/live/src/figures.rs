@@ -1,4 +1,4 @@
-//! The figures with known results, put to the Rust and to the library.
+//! The figures with known results (tests/figures.txt), compared with the library's answers and with the Rust's.
 
 use crate::ask::{self, Args};
 use crate::inputs::{axes, mirror};
@@ -11,7 +11,7 @@ pub struct Figure {
     pub answer: String,
 }
 
-/// The table's rows, then the falling twins, in each axis, of its hatch lines, rays and strokes. No row comes twice.
+/// The table's rows, then the mirror images, in each axis, of its hatch lines, rays, faces, strokes and ink. No row comes twice.
 pub fn all() -> Result<Vec<Figure>, String> {
     let lines = TABLE.lines().filter(|line| !line.starts_with('#'));
     let mut figures: Vec<_> = lines.map(figure).collect::<Result<_, _>>()?;
@@ -37,10 +37,10 @@ fn twins(figure: &Figure) -> Result<Vec<Figure>, String> {
         let mut twin = args.clone();
         mirror(pair.row.shape, axis, &mut twin.floats);
         let answer = match pair.row.name {
-            // Lines and their box are mirrored: the parameters of their ends stay, and so does the length that a stroke draws.
+            // Lines and their box are mirrored: the parameters of their ends stay, and so does the ink of a stroke.
             "aabb.line" | "aabb.lines" | "aabb.ray" | "aabb_3.line" | "aabb_3.ray"
             | "edge2.ink" => figure.answer.clone(),
-            // A stroke is mirrored within its bounds: the judge tells the answer.
+            // A stroke is mirrored within its own bounding box, and its entries are others: they are taken from the Rust.
             "edge2.overlapping_pixels_dda" | "edge2.pixels_inside" | "edge2.pixels_bound" => {
                 pair.rust_line(&twin)?
             }
@@ -51,7 +51,7 @@ fn twins(figure: &Figure) -> Result<Vec<Figure>, String> {
     Ok(twins)
 }
 
-/// Their number, if the Rust and the library answer all of them so.
+/// How many figures there are, or the first that the Rust or the library answers otherwise.
 pub fn check() -> Result<usize, String> {
     let figures = all()?;
     for Figure { request, answer } in &figures {

@@ -1,4 +1,4 @@
-//! Reports on hatch lists, good and damaged: the library's against the Rust's clip.
+//! Reports on hatch lists, good and damaged: the library's against one put together here, with a plain reader and the Rust's clip.
 
 use crate::inputs::Inputs;
 use crate::pairs;
@@ -19,8 +19,8 @@ pub fn run(seed: u64, count: u64) -> Result<(), String> {
     Ok(())
 }
 
-/// Nothing if the report on a file, in a list of so many bytes, is as it should be. The report has no list to read into: one as long as the
-/// file holds its floats.
+/// Compares the report on a file in a list of `page` bytes. A report is not refused for room, so the plain reader gets room enough: a file has
+/// fewer floats than bytes.
 pub fn compare(file: &[u8], page: usize) -> Result<(), String> {
     let mut out = vec![0xff; page];
     let length = hatch::report(file, &mut out);
@@ -34,7 +34,7 @@ pub fn compare(file: &[u8], page: usize) -> Result<(), String> {
     Err(format!("the report on {file:02x?} with room for {page} bytes differs"))
 }
 
-/// Document 01's report, with the Rust's clip, and document 02's refusals.
+/// The report of docs/FORMAT.md, with the Rust's clip.
 fn report(read: Result<Records, Refused>) -> String {
     let records = match read {
         Ok(records) => records,

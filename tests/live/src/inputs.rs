@@ -1,4 +1,4 @@
-//! Random inputs for a routine, the same ones for the same seed.
+//! Random inputs for a routine, the same for the same seed.
 
 mod edges;
 mod file;
@@ -50,12 +50,12 @@ impl Inputs {
         }
     }
 
-    /// The next input. Where an argument may be any float, one takes the special value of this number.
+    /// The next input. Of a routine that takes single floats alone, one of them is the special value of this number, while there is one.
     pub fn next_special(&mut self, number: usize) -> &Args {
         self.next();
         let free = self.row.shape.iter().all(|kind| *kind == Kind::Float);
         if let Some(special) = floats::SPECIALS.get(number).filter(|_| free) {
-            // Each value comes with both signs, one after the other: the same argument takes both.
+            // A value is followed by its negative: the same argument takes both.
             let at = number / 2 % self.args.floats.len();
             self.args.floats[at] = *special;
         }

@@ -1,4 +1,5 @@
-//! The Rust's routines as the library's are named in requests, a file for each module.
+//! What the library's answers are compared with, a row for each routine, by its name in requests, a file for each module. A row calls the Rust's
+//! routine. Where the Rust has none, a few lines of plain Rust stand in its place, and the row's file says so.
 
 mod aabb;
 mod aabb2;
@@ -25,7 +26,7 @@ use crate::answer::Answer;
 use crate::ask::Args;
 use crate::inputs::Kind;
 
-/// A routine of the Rust.
+/// A routine that the library's is compared with.
 pub struct Row {
     pub name: &'static str,
     /// What the arguments are, in their order: inputs are made by it.
@@ -33,7 +34,7 @@ pub struct Row {
     call: fn(&Args) -> Answer,
     /// The refusal that stands for a panic.
     panic: Option<u32>,
-    /// Whether an input is in the domain of document 01.
+    /// Whether an input is compared: every one but those that divide by a zero whose sign a minimum or maximum leaves open (docs/DIFFERENCES.md).
     pub domain: fn(&Args) -> bool,
 }
 
@@ -47,7 +48,7 @@ impl Row {
         Row { panic: Some(refusal), ..self }
     }
 
-    /// The same routine, with inputs kept to a domain.
+    /// The same routine, compared on these inputs alone.
     const fn within(self, domain: fn(&Args) -> bool) -> Self {
         Row { domain, ..self }
     }
@@ -57,7 +58,7 @@ impl Row {
         self.shape.iter().map(|kind| kind.takes()).collect()
     }
 
-    /// The Rust's answer; nothing if it panics and no refusal stands for that.
+    /// The answer to compare with; nothing if the Rust panics and no refusal stands for that.
     pub fn answer(&self, args: &Args) -> Option<Answer> {
         panics::caught(|| (self.call)(args)).or(self.panic.map(Answer::refused))
     }

@@ -1,4 +1,4 @@
-//! The live comparison: the library and the Rust are given the same inputs, and their answers are compared.
+//! The comparison: the library and the Rust are given the same inputs, and their answers are compared. The Rust's side is in `judge`.
 
 mod all;
 mod answer;
@@ -23,14 +23,19 @@ use options::Options;
 use std::env;
 use std::process::ExitCode;
 
-const USAGE: &str = "usage: live MODE [--seed S] [--count N] [--only PREFIX]
-  compare  random inputs for each routine, strokes along margins, hatch lists, and every exact root: the library against the judge
-  all      all 4294967296 inputs of each routine of one float: the library against the judge
-  cover    the tiles listed against their definition, by brute force on small sheets
-  vectors  print requests with the Rust's answers
-  tally    count the kinds of the Rust's answers, a check on the inputs";
+const USAGE: &str = "usage: tests/compare MODE [--seed S] [--count N] [--only PREFIX]
+  compare  compare the library with the Rust on the figures and on random inputs for each routine; without --only also on the places of refusals,
+           strokes along margins, every exact root, hatch lists, and tiles by brute force
+  all      compare the library with the Rust on all 4294967296 inputs of each routine of one float
+  cover    compare the tiles listed with their definition, by brute force on small sheets
+  vectors  print requests with the Rust's answers: the figures, and 100 for each routine
+  tally    count the kinds of the Rust's answers, to see that each kind comes often
 
-/// A mode: it ends well, or says what is wrong.
+  --seed S       decides the random inputs; 1 if it is not given
+  --count N      inputs for each routine; 1000000 in compare, 100 in vectors, 10000 in tally if it is not given
+  --only PREFIX  only the routines whose names begin so";
+
+/// A mode: nothing, or what is wrong.
 type Mode = fn(&Options) -> Result<(), String>;
 
 fn main() -> ExitCode {

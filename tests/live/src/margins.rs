@@ -1,5 +1,5 @@
 //! Strokes along the margins of an image, from corner to corner and off it: what both walks enter, and that a list as long as `pixels_bound`
-//! answers is never too short; the latter of random strokes too.
+//! answers is never too short. The second is tried with random strokes too.
 
 use crate::inputs::Inputs;
 use crate::pairs::named;
@@ -11,7 +11,7 @@ use del_geo_core::edge2;
 const IMAGES: [[usize; 2]; 9] =
     [[0, 0], [1, 1], [1, 7], [7, 1], [4, 4], [5, 3], [3, 16], [64, 48], [16_384, 2]];
 
-/// What a list holds before the call.
+/// What each entry of a list holds before the call.
 const UNTOUCHED: u32 = u32::MAX;
 
 /// A walk, as the library has it.

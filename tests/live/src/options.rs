@@ -3,7 +3,7 @@
 pub struct Options {
     /// Decides every random input.
     pub seed: u64,
-    /// Inputs for each routine; a mode has its own default.
+    /// How many inputs for each routine; each mode has its own number if it is not given.
     pub count: Option<u64>,
     /// Only the routines whose names begin so.
     pub only: String,

@@ -1,4 +1,4 @@
-//! A routine of the library beside the Rust's.
+//! A routine of the library beside the one that it is compared with.
 
 use crate::ask::{self, Args, Routine};
 use crate::judge::{self, Row};
@@ -19,12 +19,12 @@ pub fn named(name: &str) -> Result<Pair, String> {
     pair(ask::named(name).ok_or(format!("the library has no {name}"))?)
 }
 
-/// A routine of the library must have its row of the judge, with the same arguments.
+/// The routine beside its row of `judge`, which must be there and have the same arguments.
 pub fn pair(routine: &'static Routine) -> Result<Pair, String> {
     let name = routine.name();
-    let row = judge::named(name).ok_or(format!("the judge has no {name}"))?;
+    let row = judge::named(name).ok_or(format!("tests/live/src/judge has no {name}"))?;
     if routine.takes() != row.takes() {
-        return Err(format!("the judge's {name} has other arguments"));
+        return Err(format!("{name} of tests/live/src/judge has other arguments"));
     }
     Ok(Pair { routine, row })
 }
@@ -42,7 +42,7 @@ impl Pair {
         Err(format!("{}\n  library: {ours}\n  Rust:    {rust}", self.routine.request(args)))
     }
 
-    /// The Rust's answer as a line; an error if it panics where document 01 has no refusal.
+    /// The Rust's answer as a line; an error if it panics and no refusal stands for that.
     pub fn rust_line(&self, args: &Args) -> Result<String, String> {
         let answer = self.row.answer(args);
         let panicked = || format!("{}: the Rust panicked", self.routine.request(args));

@@ -1,11 +1,11 @@
-//! The places that refusals tell, on whole families of inputs.
+//! The places that refusals tell: strokes with every combination of coordinates at the limits, and every change of a byte of a hatch list.
 
 use crate::ask::Args;
 use crate::hatch;
 use crate::inputs::hatch_list;
 use crate::pairs::named;
 
-/// An ordinary coordinate; the limit, and one past it, of either sign; what is not finite.
+/// An ordinary coordinate; the limit and the f32 beyond it, of either sign; those that are not finite.
 const COORDINATES: [f32; 8] = [
     1.5,
     65_536.0,
@@ -17,7 +17,7 @@ const COORDINATES: [f32; 8] = [
     f32::NAN,
 ];
 
-/// Document 01's example file, and its falling twin.
+/// The records of two files: a line that falls and one that rises, and their mirror images in x.
 const EXAMPLES: [[f32; 16]; 2] = [
     [0.0, 0.0, 4.0, 2.0, 6.0, -1.0, -1.0, 1.0, 0.0, 0.0, 4.0, 2.0, 6.0, -1.0, 1.0, 1.0],
     [-4.0, 0.0, 0.0, 2.0, -6.0, -1.0, 1.0, 1.0, -4.0, 0.0, 0.0, 2.0, -6.0, -1.0, -1.0, 1.0],
@@ -37,13 +37,13 @@ pub fn run() -> Result<(), String> {
     Ok(())
 }
 
-/// Each of the coordinates at each of the four places, with every other at the others.
+/// Every combination of these coordinates at the four places.
 fn ends() -> impl Iterator<Item = Vec<f32>> {
     let end = |number: usize| (0..4).map(|place| COORDINATES[number >> (3 * place) & 7]).collect();
     (0..8usize.pow(4)).map(end)
 }
 
-/// In an image that is taken and in one that is not, with room and without.
+/// Those strokes in an image that is accepted and in one that is refused, with room and without.
 fn strokes() -> Result<usize, String> {
     let walks = [named("edge2.overlapping_pixels_dda")?, named("edge2.pixels_inside")?];
     let bound = named("edge2.pixels_bound")?;
@@ -61,7 +61,7 @@ fn strokes() -> Result<usize, String> {
     Ok(count)
 }
 
-/// In boxes that are taken, an infinite one among them, and in boxes that are not ordered in x, in y, or have a NaN.
+/// Those strokes in boxes that are accepted, an infinite one among them, and in boxes that are not ordered in x, in y, or have a NaN.
 fn inks() -> Result<usize, String> {
     const INFINITE: f32 = f32::INFINITY;
     let boxes = [

@@ -5,7 +5,7 @@ pub struct Random {
 }
 
 impl Random {
-    /// A name has numbers of its own, so that a routine's inputs do not depend on which others are run.
+    /// Each name has numbers of its own, so that a routine's inputs do not depend on which others are run.
     pub fn new(seed: u64, name: &str) -> Self {
         let mut random = Random { state: seed };
         for byte in name.bytes() {

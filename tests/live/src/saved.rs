@@ -14,7 +14,7 @@ pub fn run(seed: u64, count: u64) -> Result<(), String> {
         "hatch.write, hatch.write_floats {} lists at the limits, no difference",
         limits(seed)?
     );
-    // Not the inputs that the writer was compared on.
+    // Another seed, so that these are not the inputs on which the writer was compared.
     let mut records = Inputs::new(named("hatch.write")?.row, seed.wrapping_add(1));
     let mut random = Random::new(seed, "saved");
     let (mut files, mut refused) = (0, 0);
@@ -36,7 +36,7 @@ pub fn run(seed: u64, count: u64) -> Result<(), String> {
     Ok(())
 }
 
-/// The file of these records, if reading it gives them.
+/// The file of these records; an error if reading it does not give them.
 fn written(patterns: &[u32]) -> Result<Vec<u8>, String> {
     let whole = &patterns[..patterns.len() / 8 * 8];
     let mut file = vec![0; 7 + 4 * whole.len()];
@@ -50,7 +50,7 @@ fn written(patterns: &[u32]) -> Result<Vec<u8>, String> {
     Err(format!("{patterns:08x?} is written as {file:02x?} and reads as {read:08x?}"))
 }
 
-/// Whether a file is read, where the plain reader reads it; and then, if it is written again as it stands.
+/// Whether a file is read. An error if the plain reader decides otherwise, or if what is read and written again is another file.
 fn rewritten(file: &[u8]) -> Result<bool, String> {
     let mut read = vec![0; file.len()];
     let records = hatch::read_patterns(file, &mut read);
@@ -66,8 +66,8 @@ fn rewritten(file: &[u8]) -> Result<bool, String> {
     Err(format!("{file:02x?} is read and written as {again:02x?}"))
 }
 
-/// Lists of records at the limits, with up to seven entries that make no record, for a list that is a byte short, one that is exact, and
-/// longer ones.
+/// How many lists of records were compared: at the limits, with up to seven entries that make no record, for a list of no byte, one that is a
+/// byte short, one that is exact, and longer ones.
 fn limits(seed: u64) -> Result<usize, String> {
     let writers = [named("hatch.write")?, named("hatch.write_floats")?];
     let mut random = Random::new(seed, "limits");

@@ -1,10 +1,10 @@
-//! Every f32 above zero that has an exact root, by the odd part of that root: the root and its digits, and the floats beside it.
+//! Every f32 above zero that has an exact root, found by the odd part of that root: the library's root and digits, for it and the floats beside it.
 
 use crate::answer::Answer;
 use crate::ask::Args;
 use crate::pairs::named;
 
-/// The square of an odd number has 24 digits at most exactly if the number is below this: no exact root has more than 12 up to its last 1.
+/// The square of an odd number has at most 24 binary digits exactly if the number is below this: no exact root has more than 12 up to its last 1.
 const ODD_PARTS_END: u32 = 1 << 12;
 
 /// How many f32s above zero have an exact root.

@@ -1,4 +1,5 @@
-//! The kinds of the Rust's answers to the random inputs. Each kind that a routine has must come often.
+//! Counts the kinds of the Rust's answers to the random inputs. They are read by a person: inputs are good if each kind that a routine has comes
+//! often.
 
 use crate::figures;
 use crate::inputs::Inputs;
@@ -21,7 +22,7 @@ pub fn run(options: &Options) -> Result<(), String> {
     Ok(())
 }
 
-/// Refusals, none, yes and no are kinds of their own; of numbers it counts whether one is a NaN.
+/// Each refusal is a kind, and so are none, yes and no, answers with a NaN, and other numbers.
 fn kind(line: String) -> String {
     match line.as_str() {
         "0" | "1" | "none" => line,

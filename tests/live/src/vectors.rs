@@ -1,4 +1,4 @@
-//! Requests with the Rust's answers, for a replay without the Rust: `f32.floor c0200000 = c0400000`.
+//! Prints requests with the Rust's answers, for tests/replay, which needs no Rust: `f32.floor c0200000 = c0400000`.
 //! The figures with known results come first.
 
 use crate::figures;
@@ -29,7 +29,7 @@ fn print(pair: &Pair, seed: u64, count: usize) -> Result<(), String> {
         let args = inputs.next_special(i);
         let request = pair.routine.request(args);
         let row = format!("{request} = {}", pair.rust_line(args)?);
-        // A long list says no more than a short one, and a row should fit a screen.
+        // Rows with long lists are left out: a short list shows the same.
         let fits = row.len() < 300 || !pair.routine.has_list();
         if fits && printed.insert(request) {
             println!("{row}");

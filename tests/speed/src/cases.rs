@@ -34,7 +34,7 @@ pub fn compared() -> Vec<Case> {
     .collect()
 }
 
-/// The library alone, by the number of its lines, pixels, tiles or records.
+/// The library alone, on so many lines, pixels, tiles or records.
 pub struct Sized {
     pub name: &'static str,
     pub units: usize,

@@ -1,4 +1,4 @@
-//! The time that this thread has run: what else the machine does meanwhile does not count.
+//! The processor time of this thread: what other programs take meanwhile is not counted.
 
 /// `struct timespec` of POSIX, on a 64-bit Linux.
 #[repr(C)]
@@ -7,7 +7,7 @@ struct Timespec {
     nanoseconds: i64,
 }
 
-/// Linux's number for the clock.
+/// Linux's number for that clock.
 const CLOCK_THREAD_CPUTIME_ID: i32 = 3;
 
 unsafe extern "C" {

@@ -1,4 +1,4 @@
-//! The library and the Rust timed side by side, in one run on the same inputs.
+//! Times the library and the Rust in one run on the same inputs.
 //!
 //! Prints two tables for docs/PERFORMANCE.md: each case as a ratio, and the library's cost against size.
 

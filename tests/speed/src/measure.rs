@@ -1,8 +1,8 @@
-//! Times two sides in turn: what slows the machine down meanwhile slows both.
+//! Times two sides in turn, so that what slows the machine down slows both.
 
 use crate::clock;
 
-/// What both sides answer, and for how many lines, pixels, tiles or calls one run does.
+/// What is timed on both sides, and how many lines, pixels, tiles, records or calls one run has.
 pub struct Case {
     pub name: String,
     pub units: usize,
@@ -20,13 +20,13 @@ pub enum Side {
     Rust,
 }
 
-/// How often both sides are timed in turn.
+/// How many times each side is timed.
 const ROUNDS: usize = 101;
 
-/// How long one side is timed at a stretch, in nanoseconds: short, so that few stretches are interrupted.
+/// How long one side is timed without a pause, in nanoseconds: short, so that few of these stretches are interrupted.
 const STRETCH: f64 = 500_000.0;
 
-/// The nanoseconds of one run, a pair a round.
+/// The nanoseconds of one run, of the library and of the Rust, for each round.
 pub struct Figures {
     pairs: Vec<[f64; 2]>,
 }
@@ -46,7 +46,7 @@ pub fn measure(case: &Case) -> Figures {
     Figures { pairs }
 }
 
-/// One side alone: its median.
+/// The median of one side that is timed alone.
 pub fn alone(run: &Run) -> f64 {
     let repeats = repeats(run);
     percentile((0..ROUNDS).map(|_| time(run, repeats)).collect(), 50)

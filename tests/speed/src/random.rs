@@ -1,6 +1,6 @@
 //! Inputs that are the same in every run.
 
-// The comparison's numbers; it uses more of them.
+// The random numbers of tests/live, which uses more of their functions.
 #[allow(dead_code)]
 #[path = "../../live/src/random.rs"]
 mod numbers;

@@ -1,6 +1,6 @@
 //! The Rust that the library is compared with: del-geo-core's own files, unchanged.
 
-// Their warnings are not ours to mend.
+// The files stay unchanged, so their warnings stay too.
 #![allow(warnings)]
 
 mod stubs;

@@ -1,5 +1,4 @@
-//! The names that the Rust takes from modules that are not among its given files, and from edge3.rs, which calls a function that it does
-//! not have. Nothing here is called.
+//! The names that the Rust's files take from other modules of theirs, so that the files that build.rs lists are enough. Nothing here is called.
 
 pub mod edge3 {
     pub trait Edge3Trait<T> {}

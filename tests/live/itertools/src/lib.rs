@@ -1,4 +1,4 @@
-//! The names of itertools that the Rust mentions. Nothing here is called:
+//! The names that the Rust's files take from itertools. Nothing here is called:
 //! only quaternions and the singular value decomposition use them.
 
 use std::cmp::Ordering;

@@ -1,5 +1,5 @@
-//! Debian's num-traits, 0.2.15, with `Float::clamp` as num-traits itself has it from 0.2.19 on:
-//! edge2.rs calls it.
+//! Debian's num-traits, 0.2.15, with `Float::clamp`, which edge2.rs calls. It is defined as num-traits
+//! defines it from 0.2.19 on.
 
 pub use debian::*;
 

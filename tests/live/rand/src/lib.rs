@@ -1,5 +1,5 @@
-//! The names of rand that the Rust mentions. Nothing here is called:
-//! random boxes and points are left out of the port.
+//! The names that the Rust's files take from rand. Nothing here is called:
+//! the library has no random boxes or points.
 
 use distr::{Distribution, StandardUniform};
 

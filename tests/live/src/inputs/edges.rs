@@ -6,7 +6,8 @@ use std::array;
 
 type Edge = [f32; 3];
 
-/// Puts most half edges at right angles, and spoils some: boxes with no volume, and edges whose squares underflow or overflow.
+/// Puts the three half edges at right angles most times. At times one is 0, parallel to another, or so short or long that its square underflows
+/// or overflows.
 pub fn arrange(floats: &mut [f32], random: &mut Random) {
     let edges = floats.as_chunks_mut().0;
     match random.below(8) {

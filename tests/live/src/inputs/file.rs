@@ -22,7 +22,7 @@ pub fn make(source: Source, random: &mut Random, args: &mut Args) {
 /// Changes a byte one time in three, and makes the file longer or shorter one time in three.
 pub fn damage(file: &mut Vec<u8>, random: &mut Random) {
     if random.one_in(3) {
-        // The header is short, and decides most.
+        // Half of the changes are kept to the header, on which most refusals depend.
         let within = if random.one_in(2) { 7 } else { file.len() };
         let at = random.below(within as u64) as usize;
         file[at] = random.bits() as u8;
@@ -43,7 +43,7 @@ pub fn make_records(source: Source, random: &mut Random, args: &mut Args) {
     args.wholes.push(room(args.floats.len(), random));
 }
 
-/// The same by their bits, any of them, and NaNs of every kind.
+/// The same with the floats as bits: also random ones, and NaNs of every kind.
 pub fn make_bits(source: Source, random: &mut Random, args: &mut Args) {
     let mut floats = Vec::new();
     for _ in 0..entries(random) {
@@ -57,7 +57,7 @@ pub fn make_bits(source: Source, random: &mut Random, args: &mut Args) {
     args.wholes.push(room(args.patterns.len(), random));
 }
 
-/// Both ends of the signalling NaNs and of the quiet ones, and one between, without the sign.
+/// The least and the greatest pattern of the signalling NaNs and of the quiet ones, and one between of each, without the sign.
 const NANS: [u32; 6] =
     [0x7f80_0001, 0x7fa0_0000, 0x7fbf_ffff, 0x7fc0_0000, 0x7fc0_0001, 0x7fff_ffff];
 

@@ -1,4 +1,4 @@
-//! Floats of every class on which float code can go wrong.
+//! Floats of every class, and those near which float code errs.
 
 use crate::random::Random;
 use std::sync::LazyLock;
@@ -23,8 +23,8 @@ const CLASSES: [u32; 12] = [
 const PLAIN: [f32; 13] =
     [0.5, 1.5, 2.5, 3.5, 4_194_303.5, 4_194_304.5, 8_388_607.5, 3.0, 7.0, 10.0, 100.0, 0.1, 12.7];
 
-/// Document 01's limits, and the powers of two at which f32 and the integer types change:
-/// 2^0, 2^1, 2^22 to 2^24, 2^31, 2^32, 2^63, 2^64.
+/// The library's limits, and powers of two: 2^0, 2^1; 2^22, 2^23 and 2^24, from which on neighbouring f32s are at least
+/// 1/2, 1 and 2 apart; and the ends of the integer types, 2^31, 2^32, 2^63, 2^64.
 const MARKS: [f32; 14] = [
     1.0,
     2.0,

@@ -1,4 +1,4 @@
-//! The kinds of arguments: what a routine's floats and whole numbers stand for. Those of space end in 3.
+//! The kinds of arguments: what the numbers that a routine takes stand for. The names of those of space end in 3.
 
 use std::ops::Range;
 
@@ -77,7 +77,7 @@ impl Kind {
         (!letters.contains('F')).then(|| letters.matches('f').count())
     }
 
-    /// The dimensions that it stands in, with a mirror image in each: 2 in the plane, 3 in space, 0 if it is no figure.
+    /// How many dimensions it has, with a mirror image in each: 2 in the plane, 3 in space, 0 if it is no figure.
     fn dimensions(self) -> usize {
         use Kind::*;
         match self {

@@ -1,4 +1,4 @@
-//! Making an argument of a kind.
+//! Makes an argument of a kind.
 
 use super::Kind;
 use super::edges;
@@ -26,7 +26,7 @@ pub fn make(kind: Kind, source: Source, random: &mut Random, args: &mut Args) {
     add_wholes(kind, floats, random, &mut args.wholes);
 }
 
-/// How many floats a list has. Most lists of lines have whole lines, and some more of them than are worked out at a time.
+/// How many floats a list has. Most lists of lines have whole lines only.
 fn list_length(kind: Kind, random: &mut Random) -> usize {
     if kind != Kind::Lines {
         return random.below(32) as usize;
@@ -37,7 +37,7 @@ fn list_length(kind: Kind, random: &mut Random) -> usize {
     (4 * lines + more) as usize
 }
 
-/// Makes most arguments what a caller would pass: ends in order, edges at right angles.
+/// Changes most arguments to what a caller would pass: ends in order, edges at right angles.
 fn arrange(kind: Kind, floats: &mut [f32], random: &mut Random) {
     match kind {
         Kind::Radius if !random.one_in(4) => floats[0] = floats[0].abs(),

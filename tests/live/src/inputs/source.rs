@@ -13,7 +13,7 @@ pub enum Source {
 
 impl Source {
     pub fn random(random: &mut Random) -> Self {
-        // A figure on a grid comes with its mirror images.
+        // An input on a grid is followed by its mirror images, so that in the plane half of all inputs are on one.
         if !random.one_in(4) {
             return Source::Wild;
         }

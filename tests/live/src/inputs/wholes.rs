@@ -2,7 +2,7 @@
 
 use crate::random::Random;
 
-/// Document 01's limits with one below and one above, the ends of the integer types, and numbers
+/// The library's limits with one below and one above, the ends of the integer types, and numbers
 /// that no f32 is equal to.
 const SPECIALS: [u64; 20] = [
     0,

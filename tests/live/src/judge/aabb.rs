@@ -1,4 +1,4 @@
-//! aabb.rs, at two dimensions.
+//! The Rust's routines of aabb.rs, at two dimensions: what the library's are compared with.
 
 use super::{Row, limits, row};
 use crate::answer::Refused;
@@ -22,7 +22,7 @@ pub const ROWS: &[Row] = &[
     row("aabb.center", &[Box], |a| aabb::center::<f32, 2, 4>(&a.fs(0)).into()),
 ];
 
-/// The Rust has no routine for a whole face: its line routine for each line in turn.
+/// The Rust has no routine for a whole face: in its place its line routine is called for each line in turn.
 fn lines(a: &Args) -> Result<Vec<f32>, Refused> {
     let (lines, rest) = a.floats[4..].as_chunks();
     limits::lines(rest.len())?;

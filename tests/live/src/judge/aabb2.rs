@@ -1,4 +1,4 @@
-//! aabb2.rs
+//! The Rust's routines of aabb2.rs: what the library's are compared with.
 
 use super::{Row, limits, row};
 use crate::answer::{Answer, Refused};
@@ -46,7 +46,7 @@ pub const ROWS: &[Row] = &[
         aabb2::from_aabbs(&a.floats, a.u(0) as usize).aabb.into()
     })
     .panic_is(limits::INDEX),
-    // The Rust has no count; floats after the last whole box belong to no box.
+    // The Rust has no such routine. Floats after the last whole box belong to no box.
     row("aabb2.count", &[Floats], |a| (a.floats.len() as u64 / 4).into()),
 ];
 
@@ -62,7 +62,7 @@ fn rasterize(a: &Args) -> Result<[u64; 4], Refused> {
     Ok(aabb2::rasterize::<f32>(&a.fs(0), &image).map(|n| n as u64))
 }
 
-/// Two zeros of unlike sign have no settled maximum, and this routine divides by the maximum.
+/// The Rust leaves the maximum of two zeros of unlike sign open, and this routine divides by the maximum.
 fn maximum_is_settled(a: &Args) -> bool {
     let (x, y) = (a.f(2) - a.f(0), a.f(3) - a.f(1));
     x != 0.0 || y != 0.0 || x.is_sign_negative() == y.is_sign_negative()

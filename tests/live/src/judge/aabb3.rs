@@ -1,4 +1,4 @@
-//! aabb3.rs
+//! The Rust's routines of aabb3.rs: what the library's are compared with.
 
 use super::{Row, limits, row};
 use crate::answer::Answer;
@@ -34,7 +34,7 @@ pub const ROWS: &[Row] = &[
         aabb3::is_possible_distance_to_aabb2_smaller_than_threshold(&first, &second, a.f(12)).into()
     })
     .panic_is(limits::ORDER),
-    // The Rust has no count; floats after the last whole box belong to no box.
+    // The Rust has no such routine. Floats after the last whole box belong to no box.
     row("aabb3.count", &[Floats], |a| (a.floats.len() as u64 / 6).into()),
     row("aabb3.from_aabbs", &[Index, Floats], |a| {
         aabb3::from_aabbs(&a.floats, a.u(0) as usize).aabb.into()
@@ -44,7 +44,7 @@ pub const ROWS: &[Row] = &[
         .panic_is(limits::INDEX),
 ];
 
-/// The box as a routine leaves it that takes a point and a margin.
+/// The box after a routine that changes it by a point and a margin.
 fn changed(a: &Args, change: fn(&mut [f32; 6], &[f32; 3], f32)) -> Answer {
     let mut corners = a.fs(0);
     change(&mut corners, &a.fs(6), a.f(9));

@@ -1,4 +1,4 @@
-//! aabb.rs, at three dimensions.
+//! The Rust's routines of aabb.rs, at three dimensions: what the library's are compared with.
 
 use super::{Row, row};
 use crate::inputs::Kind::{Box3, Direction3, Point3};

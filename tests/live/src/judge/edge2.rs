@@ -1,4 +1,4 @@
-//! edge2.rs
+//! The Rust's routines of edge2.rs: what the library's are compared with.
 
 use super::{Row, difference, limits, row};
 use crate::answer::{Answer, Refused};
@@ -33,13 +33,13 @@ pub const ROWS: &[Row] = &[
     row("edge2.overlapping_pixels_dda", &[Stroke], |a| {
         stroke(a).and_then(|es| listed(es, a)).into()
     }),
-    // Document 02: the same without the closing entry, and how many entries there are at most.
+    // The Rust does not have these two: its walk without the last entry, and a bound by the exact difference of the ends.
     row("edge2.pixels_inside", &[Stroke], |a| inside(a).and_then(|es| listed(es, a)).into()),
     row("edge2.pixels_bound", &[Ends], |a| bound(a).into()),
     row("edge2.ratio_from_position", &[Point, Point, Point], |a| {
         edge2::ratio_from_position(&a.fs(0), &a.fs(2), &a.fs(4)).into()
     }),
-    // Document 02: the length of what a stroke draws in a box.
+    // The Rust does not have this one either.
     row("edge2.ink", &[Pen, Box], |a| ink(a).into()),
 ];
 
@@ -65,7 +65,7 @@ fn listed(entries: Vec<usize>, a: &Args) -> Result<Vec<u32>, Refused> {
     Ok(entries.into_iter().map(|entry| entry.try_into().unwrap()).collect())
 }
 
-/// By the ends and by the sides of the image, the lesser.
+/// The lesser of two bounds: by the ends of the stroke, and by the sides of the image.
 fn bound(a: &Args) -> Result<u64, Refused> {
     let ends @ [x0, y0, x1, y1] = a.fs(0);
     limits::stroke(a.u(0), a.u(1), &ends)?;
@@ -73,7 +73,8 @@ fn bound(a: &Args) -> Result<u64, Refused> {
     Ok((2 * larger + 2).min(a.u(0).max(a.u(1)) + 1))
 }
 
-/// The Rust has no such routine: its clip of the stroke's line, bounded to 0..1, and its length between its positions at the two ends.
+/// The length of what a stroke draws in a box, from the Rust's routines: the clip of the stroke's line, bounded to 0..1, and the length between
+/// the positions at the two ends.
 fn ink(a: &Args) -> Result<f32, Refused> {
     let (p0, p1, b) = (a.fs(0), a.fs(2), a.fs(4));
     limits::ink(&a.fs(0), &b)?;

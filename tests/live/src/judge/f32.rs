@@ -1,4 +1,5 @@
-//! Rust's own functions on f32, called as the Rust calls them, through num-traits. The Rust does not count the digits of a root: root.rs does.
+//! The f32 functions of Rust's standard library, called as del-geo-core calls them, through num-traits: what the library's are compared with.
+//! The digits of a root are counted in root.rs.
 
 use super::{Row, row, sqrt_digits};
 use crate::answer::same_number;
@@ -19,8 +20,9 @@ pub const ROWS: &[Row] = &[
     row("f32.to_usize", &[F], |a| (a.f(0) as u64).into()),
 ];
 
-/// Document 01's definition, since Rust's own clamp panics unless low <= high. Where it does not
-/// panic, both must agree.
+/// The library's clamp takes any low and high, and Rust's own panics unless low <= high: below low
+/// gives low, above high gives high, and anything else is unchanged. Where Rust's does not panic,
+/// both must agree.
 fn clamp(x: f32, low: f32, high: f32) -> f32 {
     let clamped = if x < low {
         low

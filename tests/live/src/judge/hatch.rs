@@ -1,4 +1,4 @@
-//! Hatch lists, which the Rust has not: a plain reader and a plain writer in its place.
+//! Hatch lists, which the Rust does not have: the library is compared with a plain reader and a plain writer (tests/hatch-list).
 
 use super::{Row, row};
 use crate::answer::{Answer, Refused, bits};
@@ -16,7 +16,7 @@ pub const ROWS: &[Row] = &[
     }),
 ];
 
-/// The bits that a float is written with.
+/// The bits that `hatch.write_floats` writes for a float.
 fn pattern(x: f32) -> u32 {
     if x.is_nan() { 0x7fc0_0000 } else { x.to_bits() }
 }

@@ -1,8 +1,8 @@
-//! The refusals of documents 01 and 02: the numbers, and the checks at the limits, in their order.
+//! The numbers of the refusals (docs/GUIDE.md has the table), and the checks of the limits, in their order.
 //!
-//! The Rust makes none of these checks. Without them it hangs, or it answers where a refusal is due.
-//! Where the table follows the Rust's panics (5 to 9, 16 and 17), a row of the judge says which number
-//! a panic has.
+//! The Rust makes none of these checks: without them it does not end, or it answers where the library
+//! refuses. Where the library refuses because the Rust panics (5 to 9, 16 and 17), a row of `judge`
+//! says which number stands for the panic.
 
 use crate::answer::Refused;
 
@@ -26,7 +26,7 @@ const SIDE: u64 = 16_384;
 /// What a check gives: nothing, or a refusal.
 type Checked = Result<(), Refused>;
 
-/// `overlapping_pixels_dda`: 4; 15 or 3; 2; `room` is the 1.
+/// `overlapping_pixels_dda`, `pixels_inside` and `pixels_bound`: 4; 15 or 3; 2. `room` has the 1 of the walks.
 pub fn stroke(width: u64, height: u64, ends: &[f32; 4]) -> Checked {
     refuse(width > SIDE || height > SIDE, SIZE)?;
     coordinates(ends)?;
@@ -40,7 +40,7 @@ pub fn ink(ends: &[f32; 4], &[low_x, low_y, high_x, high_y]: &[f32; 4]) -> Check
     refuse(!(low_y <= high_y), ORDER)
 }
 
-/// The ends of a stroke: 15 or 3, told with the place of the first coordinate that is either.
+/// The ends of a stroke: 15 or 3, with the place of the first coordinate that is not finite or too large.
 fn coordinates(ends: &[f32; 4]) -> Checked {
     for (place, x) in ends.iter().enumerate() {
         refuse_at(!x.is_finite(), NOT_FINITE, place)?;
@@ -49,7 +49,7 @@ fn coordinates(ends: &[f32; 4]) -> Checked {
     Ok(())
 }
 
-/// `overlapping_tiles`: 4, 3; `room` is the 1.
+/// `overlapping_tiles`: 4, 3. `room` has the 1.
 pub fn tiles(corners: &[f32; 4], size: u64, width: u64, height: u64) -> Checked {
     refuse(size == 0 || size > 4_096 || width > SIDE || height > SIDE, SIZE)?;
     refuse(!corners.iter().all(|x| x.abs() <= 1_048_576.0), COORDINATE)
@@ -60,7 +60,7 @@ pub fn rasterize(width: u64, height: u64) -> Checked {
     refuse(width > SIDE || height > SIDE, SIZE)
 }
 
-/// `intersections_against_lines`, by the floats after the last whole line: 14; `room` is the 1.
+/// `intersections_against_lines`, by the floats after the last whole line: 14. `room` has the 1.
 pub fn lines(rest: usize) -> Checked {
     refuse(rest != 0, LINES)
 }

@@ -1,4 +1,4 @@
-//! mat3_col_major.rs
+//! The Rust's routine of mat3_col_major.rs: what the library's is compared with.
 
 use super::{Row, row};
 use crate::inputs::Kind::{Matrix, Point};

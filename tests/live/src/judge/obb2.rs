@@ -1,4 +1,4 @@
-//! obb2.rs
+//! The Rust's routines of obb2.rs: what the library's are compared with.
 
 use super::{Row, limits, row};
 use crate::inputs::Kind::{Box, Point, TurnedBox};

@@ -1,4 +1,4 @@
-//! obb3.rs
+//! The Rust's routines of obb3.rs: what the library's are compared with.
 
 use super::{Row, limits, row};
 use crate::inputs::Kind::{Point3, Radius, TurnedBox3};

@@ -1,4 +1,4 @@
-//! Panics of the Rust.
+//! Catches the panics of the Rust.
 
 use std::cell::Cell;
 use std::panic::{self, UnwindSafe};

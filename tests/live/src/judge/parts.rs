@@ -1,4 +1,4 @@
-//! A float by its parts.
+//! A float as a whole number times a power of two.
 
 /// Significand and exponent: a finite float is significand * 2^exponent in size.
 pub fn parts(x: f32) -> (u32, i32) {

@@ -1,4 +1,4 @@
-//! range.rs
+//! The Rust's routines of range.rs: what the library's are compared with.
 
 use super::{Row, limits, row};
 use crate::inputs::Kind::Range;

@@ -1,4 +1,6 @@
-//! The square root, and the count of its digits as document 02's fourth request words it, by integer square roots.
+//! The square root, and how many of its binary digits are worked, by integer square roots: what the library's are compared with. The digits are
+//! counted from the leading 1 up to the last 1 of an exact root; they are 24 for any other root, and 0 for a NaN, a zero, an infinity or a
+//! negative.
 
 use super::parts::parts;
 
@@ -18,7 +20,7 @@ fn odd_parts(x: f32) -> (u64, i32) {
     (u64::from(significand >> zeros), exponent + zeros as i32)
 }
 
-/// An odd number times a power of two has an exact root exactly if the number is a square and the power one of four: the root's digits up to the
+/// An odd number times a power of two has an exact root exactly if the number is a square and the exponent even: the root's digits up to the
 /// last 1 are then those of the number's root. Any other root has no last digit, and the 24 of an f32 are worked.
 fn digits(significand: u64, exponent: i32) -> u32 {
     let root = significand.isqrt();
@@ -26,7 +28,8 @@ fn digits(significand: u64, exponent: i32) -> u32 {
     if exact { root.ilog2() + 1 } else { 24 }
 }
 
-/// The root of a number of 47 or 48 digits has 24. The nearest is the next one up if more than the root is left over.
+/// The root of a number of 47 or 48 binary digits, rounded down, has 24. It is rounded up if more than the root is left over: then the exact root
+/// is more than a half above it.
 fn nearest_root(significand: u64, exponent: i32) -> f32 {
     let more = 47 - (significand.ilog2() as i32 + 1);
     let more = if (exponent - more) % 2 == 0 { more } else { more + 1 };

@@ -1,4 +1,4 @@
-//! vec2.rs
+//! The Rust's routines of vec2.rs: what the library's are compared with.
 
 use super::{Row, row};
 use crate::inputs::Kind::Point;

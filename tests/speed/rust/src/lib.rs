@@ -1,10 +1,12 @@
-//! The Rust behind the library's own C ABI, so that both sides of a measurement pay for the same call.
+//! The Rust's routines behind the library's own C ABI, so that both sides of a measurement make the same call. What the Rust does not have is
+//! written here plainly, and its comment says so.
 //!
-//! None of these may be inlined: a call into the library is not.
+//! No exported function here may be inlined: a call into the library is not.
 
 use bagnoszyk::answers::{
     ANSWERED, BoolAnswer, CountAnswer, InkAnswer, IntervalAnswer, NONE, PointAnswer, ReadAnswer,
 };
+use bagnoszyk::limits::{LINE_FLOATS, LINE_RESULT_FLOATS};
 use bagnoszyk::shapes::{Aabb2, Aabb3, Obb2, Obb3, OnEdge, SqrtDigits, Vec2, Vec3};
 use del_geo_core::obb2::OBB2Trait;
 use del_geo_core::{aabb, aabb2, edge2, obb3, vec2};
@@ -53,14 +55,15 @@ pub unsafe extern "C" fn intersections_against_lines(
     let b = b.into();
     let lines = unsafe { std::slice::from_raw_parts(lines, lines_length) };
     let out = unsafe { std::slice::from_raw_parts_mut(out, out_length) };
-    let ((lines, _), (places, _)) = (lines.as_chunks::<4>(), out.as_chunks_mut::<3>());
+    let (lines, _) = lines.as_chunks::<LINE_FLOATS>();
+    let (places, _) = out.as_chunks_mut::<LINE_RESULT_FLOATS>();
     for (&[x, y, dx, dy], place) in lines.iter().zip(places) {
         *place = match aabb::intersections_against_line::<f32, 2, 4>(&b, &[x, y], &[dx, dy]) {
             Some((tmin, tmax)) => [1.0, tmin, tmax],
-            None => [0.0; 3],
+            None => [0.0; LINE_RESULT_FLOATS],
         };
     }
-    CountAnswer { status: ANSWERED, count: 3 * lines.len(), place: 0 }
+    CountAnswer { status: ANSWERED, count: LINE_RESULT_FLOATS * lines.len(), place: 0 }
 }
 
 /// # Safety
@@ -96,7 +99,8 @@ pub unsafe extern "C" fn pixels_inside(
     copied(entries.iter().copied(), entries.len(), list)
 }
 
-/// The Rust has no such routine: its clip, bounded to 0..1, and its length between its positions, with none of the library's refusals.
+/// The Rust has no such routine. In its place: its clip, bounded to 0..1, and its length between its positions, with none of the library's
+/// refusals.
 #[inline(never)]
 pub extern "C" fn ink(p0: Vec2, p1: Vec2, b: Aabb2) -> InkAnswer {
     let (p0, p1): ([f32; 2], [f32; 2]) = (p0.into(), p1.into());
@@ -159,13 +163,13 @@ pub extern "C" fn nearest_to_point(s: Vec2, e: Vec2, p: Vec2) -> OnEdge {
     OnEdge { ratio, point: point.into() }
 }
 
-/// The machine's instruction.
+/// The processor's instruction for a square root.
 #[inline(never)]
 pub extern "C" fn sqrt(x: f32) -> f32 {
     x.sqrt()
 }
 
-/// The Rust does not count digits: a plain count by the root's own bits, where its square, exact in f64, is the number.
+/// The Rust does not count digits. In its place: a count by the bits of the root, where the root's square, exact in f64, is the number.
 #[inline(never)]
 pub extern "C" fn sqrt_digits(x: f32) -> SqrtDigits {
     let root = x.sqrt();
@@ -182,7 +186,7 @@ pub extern "C" fn sqrt_digits(x: f32) -> SqrtDigits {
     SqrtDigits { root, digits }
 }
 
-/// The Rust has no hatch list: the reader and the writer are ours.
+/// The Rust has no hatch list: reader and writer are those of tests/hatch-list.
 ///
 /// # Safety
 /// The bytes and the list start where they are said to, with the lengths given.
@@ -197,7 +201,7 @@ pub unsafe extern "C" fn read_floats(
 }
 
 /// # Safety
-/// As of `read_floats`.
+/// That of `read_floats`.
 #[inline(never)]
 pub unsafe extern "C" fn read_patterns(
     bytes: *const u8,
@@ -209,7 +213,7 @@ pub unsafe extern "C" fn read_patterns(
 }
 
 /// # Safety
-/// As of `read_floats`.
+/// That of `read_floats`.
 #[inline(always)]
 unsafe fn read<T>(
     bytes: *const u8,
@@ -250,7 +254,7 @@ pub unsafe extern "C" fn write_patterns(
     }
 }
 
-/// The same into a list of its own, as one would write it who is lent none.
+/// The same into a new Vec.
 #[inline(never)]
 pub fn written(patterns: &[u32]) -> Option<Vec<u8>> {
     hatch_list::written(patterns).ok()

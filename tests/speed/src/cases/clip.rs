@@ -38,8 +38,8 @@ fn clip(name: &str, lines: Vec<Line>) -> Case {
     )
 }
 
-/// Line k of so many at 45 degrees, each rising one followed by its falling twin: evenly spaced over the face, with one pair past it at
-/// either end.
+/// Line k of so many at 45 degrees, each rising one followed by its falling twin. They are spaced evenly over the face, and the first and the
+/// last pair miss it.
 fn slanting(k: usize, lines: usize) -> Line {
     let (width, height) = (FACE.max_x, FACE.max_y);
     let pair = (k / 2) as f32 - 1.0;
@@ -49,7 +49,7 @@ fn slanting(k: usize, lines: usize) -> Line {
     if k.is_multiple_of(2) { rising } else { falling }
 }
 
-/// A quarter is upright or level, and many miss.
+/// A quarter is parallel to an edge of the face, and many miss it.
 fn any(random: &mut Random) -> Line {
     let origin = point(random, -20, 140);
     let mut direction = point(random, -4, 4);

@@ -1,4 +1,4 @@
-//! A whole face in one call. The Rust has no such call: it is called line by line, or inlined in a loop of its own.
+//! A whole face in one call. The Rust has no such routine: its routine for a line is called for each, or inlined in a loop.
 
 use super::clip::{FACE, Line, hatch, of_all_kinds};
 use super::{Sized, calls};
@@ -36,7 +36,7 @@ fn face(name: &str, lines: &[Line], rust: fn(&Face) -> usize) -> Case {
         lines.iter().map(|(origin, direction)| [origin.x, origin.y, direction.x, direction.y]);
     let face = (floats.collect(), RefCell::new(vec![0.0; LINE_RESULT_FLOATS * lines.len()]));
     let results = |call: fn(&Face) -> usize| {
-        // What is not written differs from itself.
+        // A NaN equals nothing, so an entry that is not written makes the lists differ.
         face.1.borrow_mut().fill(f32::NAN);
         call(&face);
         face.1.borrow().clone()

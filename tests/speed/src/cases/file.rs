@@ -1,13 +1,11 @@
-//! Reading a hatch list and clipping its records, as the hatch program does before it prints; and writing one and reading it back.
+//! Reading a hatch list and clipping its records, and writing a hatch list and reading it back.
 
 use super::{Sized, calls};
 use crate::measure::Case;
 use crate::random::{Random, between, point};
+use bagnoszyk::limits::{HATCH_RECORD_FLOATS as RECORD, HATCH_RECORDS_MAX as RECORDS};
 use bagnoszyk::{Aabb2, Interval, Vec2, aabb, hatch};
 use std::cell::RefCell;
-
-/// The most records that a file may have.
-const RECORDS: usize = 2000;
 
 /// A file, and the list for its floats.
 type File = (Vec<u8>, RefCell<Vec<f32>>);
@@ -35,7 +33,7 @@ pub fn sized() -> Vec<Sized> {
 fn file(records: usize) -> Case {
     let name = format!("file: {records} records, read and clipped");
     let file = rust_abi::written(&patterns(records)).unwrap();
-    let case = calls(&name, vec![(file, RefCell::new(vec![0.0; 8 * records]))], library, rust);
+    let case = calls(&name, vec![(file, RefCell::new(vec![0.0; RECORD * records]))], library, rust);
     Case { units: records, ..case }
 }
 
@@ -56,7 +54,7 @@ fn patterns(records: usize) -> Vec<u32> {
 fn library((bytes, floats): &File) -> f32 {
     let floats = &mut floats.borrow_mut();
     let records = hatch::read_floats(bytes, floats).unwrap();
-    clipped(&floats[..8 * records.count], |b, origin, direction| {
+    clipped(&floats[..RECORD * records.count], |b, origin, direction| {
         aabb::intersections_against_line(b, origin, direction)
     })
 }
@@ -65,15 +63,15 @@ fn rust((bytes, floats): &File) -> f32 {
     let floats = &mut floats.borrow_mut();
     let (start, room) = (floats.as_mut_ptr(), floats.len());
     let read = unsafe { rust_abi::read_floats(bytes.as_ptr(), bytes.len(), start, room) };
-    clipped(&floats[..8 * read.count], |b, origin, direction| {
+    clipped(&floats[..RECORD * read.count], |b, origin, direction| {
         rust_abi::intersections_against_line(b, origin, direction).option()
     })
 }
 
-/// The length, in the lines' own parameter, of all that is inside.
+/// The sum of the lengths of the intervals inside, each in its line's parameter.
 fn clipped(floats: &[f32], clip: impl Fn(Aabb2, Vec2, Vec2) -> Option<Interval>) -> f32 {
     let (records, _) = floats.as_chunks();
-    let inside = |&[min_x, min_y, max_x, max_y, x, y, dx, dy]: &[f32; 8]| {
+    let inside = |&[min_x, min_y, max_x, max_y, x, y, dx, dy]: &[f32; RECORD]| {
         let b = Aabb2 { min_x, min_y, max_x, max_y };
         clip(b, Vec2 { x, y }, Vec2 { x: dx, y: dy }).map_or(0.0, |t| t.tmax - t.tmin)
     };
@@ -86,7 +84,8 @@ type Saved = (usize, usize, u32);
 fn save(records: usize, other: &str, rust: fn(&Save) -> Saved) -> Case {
     let name = format!("save: {records} records, written and read back; {other}");
     let patterns = patterns(records);
-    let (file, read) = (vec![0; 7 + 32 * records], vec![0; patterns.len()]);
+    let file = vec![0; rust_abi::written(&patterns).unwrap().len()];
+    let read = vec![0; patterns.len()];
     let lists = (patterns, RefCell::new(file), RefCell::new(read));
     Case { units: records, ..calls(&name, vec![lists], saved, rust) }
 }
@@ -113,5 +112,5 @@ fn saved_in_the_list((patterns, bytes, read): &Save) -> Saved {
 fn read_by_rust(bytes: &[u8], read: &mut [u32]) -> Saved {
     let (list, room) = (read.as_mut_ptr(), read.len());
     let records = unsafe { rust_abi::read_patterns(bytes.as_ptr(), bytes.len(), list, room) };
-    (bytes.len(), records.count, read[8 * records.count - 1])
+    (bytes.len(), records.count, read[RECORD * records.count - 1])
 }

@@ -1,4 +1,4 @@
-//! Square roots, against the machine's instruction, and with their digits, against a plain count beside it.
+//! Square roots beside the processor's instruction; and with their digits, beside the instruction and a count of the digits.
 
 use super::calls;
 use crate::measure::Case;

@@ -13,7 +13,7 @@ const LINES: usize = 3000;
 const PAIRS: usize = 1000;
 
 pub fn cases() -> Vec<Case> {
-    // Centres within 1 of the origin in each coordinate, as the Rust's own random boxes have them, overlap for the most part.
+    // Boxes whose centres are within 1 of the origin in each coordinate overlap most times. The Rust's own random boxes are such.
     vec![clip(), two_turned(1, "most overlap"), two_turned(6, "most apart")]
 }
 

@@ -3,19 +3,17 @@
 use super::{Sized, calls};
 use crate::measure::Case;
 use bagnoszyk::edge2;
+use bagnoszyk::limits::IMAGE_SIDE_MAX as SIDE;
 use bagnoszyk::shapes::Vec2;
 use std::cell::RefCell;
-
-/// The largest image that is not refused.
-const SIDE: usize = 16384;
 
 type Stroke = (Vec2, Vec2);
 
 #[derive(Clone, Copy)]
 enum Room {
-    /// As long as any stroke needs.
+    /// Longer than the entries.
     Ample,
-    /// As long as the entries, no more.
+    /// Just as long as the entries.
     Exact,
 }
 
@@ -36,7 +34,7 @@ pub fn cases() -> Vec<Case> {
     cases
 }
 
-/// The limit on coordinates allows some 131,000 pixels.
+/// The limit on coordinates allows strokes of some 131,000 pixels.
 pub fn sized() -> Vec<Sized> {
     [10, 100, 1000, 10000, 100000]
         .map(|pixels| {
@@ -46,11 +44,12 @@ pub fn sized() -> Vec<Sized> {
         .into()
 }
 
-/// The low end of the longer coordinate, for a stroke inside the image as far as it is long enough.
+/// The low end in x, such that a stroke lies inside the image, or reaches past it on both sides if it is longer.
 fn inside(pixels: usize) -> f32 {
     if pixels < SIDE { 100.3 } else { -(pixels as f32) / 2.0 + SIDE as f32 / 2.0 }
 }
 
+/// The low end in x, such that half of a stroke lies left of the image.
 fn half(pixels: usize) -> f32 {
     -(pixels as f32) / 2.0
 }
@@ -70,7 +69,7 @@ fn strokes(pixels: usize, at: f32) -> Vec<Stroke> {
     strokes
 }
 
-/// With the closing entry, or without it: the Rust's walk is the same, and its last entry is left out. Each is compiled for itself.
+/// Strokes with the closing entry, or without it: then the last entry of the Rust's walk is left out. Each of the two is compiled by itself.
 fn stroke<const CLOSING: bool>(
     name: &str,
     strokes: Vec<Stroke>,

@@ -9,7 +9,7 @@ use bagnoszyk::shapes::{Aabb2, Obb2};
 const PAIRS: usize = 1000;
 
 pub fn cases() -> Vec<Case> {
-    // Centres within 1 of the origin, as the Rust's own random boxes have them, overlap for the most part.
+    // Boxes whose centres are within 1 of the origin in each coordinate overlap most times. The Rust's own random boxes are such.
     [(1, "most overlap"), (6, "most apart")]
         .into_iter()
         .flat_map(|(spread, share)| [two_turned(spread, share), turned_and_upright(spread, share)])

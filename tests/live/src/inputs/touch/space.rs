@@ -27,15 +27,15 @@ pub fn turned_boxes(floats: &mut [f32], random: &mut Random) {
     floats.iter_mut().for_each(|x| *x *= 2f32.powi(exponent));
 }
 
-/// Puts the first box at infinity in x and the second in y, which shows the order of the axes. On the edges, all rising in x and in y, both
-/// projections are infinite and overlap. A cross product that rises in one and falls in the other parts the boxes, and on one without x or
-/// without y a projection is a NaN.
+/// Puts the first box at infinity in x and the second in y, so that the answer depends on the order of the axes. On the edges, all rising in x
+/// and in y, both projections are infinite and overlap. A cross product that rises in one and falls in the other separates the boxes, and on
+/// one without x or without y a projection is a NaN.
 fn put_at_infinity(first: &mut [[f32; 3]], second: &mut [[f32; 3]], random: &mut Random) {
     first[0] = [f32::INFINITY, 0.0, 0.0];
     second[0] = [0.0, f32::INFINITY, 0.0];
     for edge in first[1..].iter_mut().chain(&mut second[1..]) {
-        // For the most part the less in x the more in y: then the cross product of two edges rises or falls in both. Equal powers of two
-        // cancel in it.
+        // Most times an edge with less in x has more in y: then the cross product of two edges rises in both or falls in both. Equal powers
+        // of two cancel in it.
         let [x, more] = [16, 6].map(|n| random.below(n) as i32);
         *edge = [2f32.powi(x), 2f32.powi(16 - x + more), 1.0];
     }
