@@ -45,8 +45,13 @@ def promise(library, cells):
 
 
 def read(library):
-    text = (library.root / PAGE).read_text() + "\n"
-    return [promise(library, row) for table in tables(text) if table[0] == HEAD for row in table[2:]]
+    """Every row. A table with another head is an error."""
+    rows = []
+    for table in tables((library.root / PAGE).read_text() + "\n"):
+        if table[0] != HEAD:
+            sys.exit(f"promises: {PAGE}: a table that is not read: {' | '.join(table[0])}")
+        rows += table[2:]
+    return [promise(library, row) for row in rows]
 
 
 def laws(library, crate):
