@@ -26,14 +26,19 @@ pub struct Row {
     pub limit: usize,
 }
 
+// The bytes of a record of version 1, and the most records of a file of that version.
+pub const RECORD_BYTES: usize = 32;
+
+pub const RECORDS_MAX: usize = 2000;
+
 const VERSION_ONE: Row = Row {
     version: 1,
-    width: 32,
-    limit: 2000,
+    width: RECORD_BYTES,
+    limit: RECORDS_MAX,
 };
 
 // The bytes of the longest file that is accepted.
-pub const BYTES_MAX: usize = RECORDS_AT + VERSION_ONE.width * VERSION_ONE.limit;
+pub const BYTES_MAX: usize = RECORDS_AT + RECORD_BYTES * RECORDS_MAX;
 
 // What an accepted header says: the row of the file's version, and how many records the file has.
 #[derive(Clone, Copy, Debug, PartialEq, Eq)]

@@ -6,5 +6,6 @@ mod header;
 
 pub use bytes::record_bits;
 pub use header::{
-    BYTES_MAX, COUNT_AT, HSL, Head, MARK_AT, RECORDS_AT, Row, VERSION_AT, head_of, version_one,
+    BYTES_MAX, COUNT_AT, HSL, Head, MARK_AT, RECORD_BYTES, RECORDS_AT, RECORDS_MAX, Row,
+    VERSION_AT, head_of, version_one,
 };
