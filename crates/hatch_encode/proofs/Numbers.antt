@@ -37,10 +37,10 @@ bytes_back (x ∷ s) small =
 
 -- ---- parts of a list of bytes
 
-below_drop : (bound n : ℕ) (l : List ℕ) → Below bound l → Below bound (drop n l)
+pub below_drop : (bound n : ℕ) (l : List ℕ) → Below bound l → Below bound (drop n l)
 below_drop bound n l small k = subst (λ (x : ℕ). x < bound) (sym (get_or-drop n l k 0)) (small (n + k))
 
-below_take : (bound n : ℕ) (l : List ℕ) → 0 < bound → Below bound l → Below bound (take n l)
+pub below_take : (bound n : ℕ) (l : List ℕ) → 0 < bound → Below bound l → Below bound (take n l)
 below_take bound zero l some small k = some
 below_take bound (suc n) [] some small k = some
 below_take bound (suc n) (x ∷ l) some small zero = small 0

@@ -99,7 +99,7 @@ module _ (mark : List ℕ) (three : length mark ≡ 3) (version : ℕ) where
 -- ---- read, and written again
 
 module _ (b : List ℕ) (small : Below 256 b) (n : ℕ) (whole : length b ≡ 7 + 32 * n) where
-  abbrev read : List ℕ
+  abbrev pub read : List ℕ
   read = patterns_of 32 b n
 
   length_read : length read ≡ 8 * n
@@ -126,10 +126,10 @@ module _ (b : List ℕ) (small : Below 256 b) (n : ℕ) (whole : length b ≡ 7 
       ∙ ap (λ (k : ℕ). take (4 * k) (record_part 32 b i)) eight
       ∙ take_all 32 (record_part 32 b i) (omega (arith, length-take 32 (drop (32 * i) (drop 7 b))))
 
-  count_read : record_count_of read ≡ n
+  pub count_read : record_count_of read ≡ n
   count_read = omega (arith, length_read)
 
-  records_again : (i : ℕ) → i < length (records_in read) → record_bytes (get_or (records_in read) i []) ≡ record_part 32 b i
+  pub records_again : (i : ℕ) → i < length (records_in read) → record_bytes (get_or (records_in read) i []) ≡ record_part 32 b i
   records_again i h =
       let few : i < record_count_of read = omega (arith, count_records read) in
       ap record_bytes (record_is read i few) ∙ record_again i (omega (arith, count_read))

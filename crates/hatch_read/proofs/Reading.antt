@@ -70,7 +70,7 @@ module _ (mark : List ℕ) (table : List Row) (b : List ℕ) (room v n : ℕ) (p
 
 -- ---- exactly hatch lists are accepted, where the list has room
 
-decoded_list : (b : List ℕ) (n : ℕ) → HatchList hsl b n → decode hsl rows b ≡ accepted 1 n (patterns_of 32 b n)
+pub decoded_list : (b : List ℕ) (n : ℕ) → HatchList hsl b n → decode hsl rows b ≡ accepted 1 n (patterns_of 32 b n)
 unfolding decode body_of
 decoded_list b n h = ap (λ (x : Result Head RefusalAt). body_of x b) (accepts hsl b refl n h)
 

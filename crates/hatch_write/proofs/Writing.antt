@@ -47,7 +47,7 @@ module _ (r : Row) (n room : ℕ) where
       go false true x y e = no_count Room m e
       go false false x y e = (ltb-false r.limit n x, ltb-false room (expected_length r n) y, same_count (expected_length r n) m e)
 
-version_one : InTable rows version_one_of
+pub version_one : InTable rows version_one_of
 unfolding layout_of
 version_one = record { known = refl; version = lit< tt; limit = lit< tt }
 

@@ -18,9 +18,9 @@ use hatch_format::{HSL, RECORDS_AT};
 use types::Refusal;
 
 // Writes the header of a file of `count` records, and answers how many bytes the file has. Too many records are refused, and then a list that is
-// too short for the file.
+// too short for the file. The caller writes the records behind the header.
 #[tactic(auto, unfolding(crate::specs::Write::size_of, lists::specs::Lent::leaves))]
-fn begin(out: &mut [u8], count: usize) -> Result<usize, Refusal>
+pub fn begin(out: &mut [u8], count: usize) -> Result<usize, Refusal>
     ensures answers { result ≡ size_of version_one_of count (length out.old) }
     ensures leaves { out.new ≡ leaves result (head_bytes hsl 1 count) out.old }
 {
