@@ -213,6 +213,9 @@ class Page:
         used = {}
         for word in self.words_named():
             used.setdefault(word.module, set()).update([word.name.replace("◌", "")])
+        told = {word for words, _ in WORDS for word in words.replace("\\", "").split()}
+        if untold := sorted(set().union(*used.values()) - told):
+            sys.exit(f"contracts: words.py does not tell what {', '.join(untold)} means")
         yield "| word | what it means |"
         yield "|---|---|"
         for words, meaning in WORDS:

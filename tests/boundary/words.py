@@ -14,11 +14,12 @@ How to read it:
 - `result` is what the call returns. The other names of a clause are the parameters, and C's `bgz_vec2` is `Vec2` here.
 - A lent list is one value, and its length belongs to it: C's `out_length` is `length out.old`. `x.now` is what a list holds that is only read.
   Of a list or a box that the call may change, `x.old` is what it holds before the call and `x.new` what it holds after it.
-- `f x y` is what C writes as f(x, y), and `p.x` is a field. `result ≡ f x y` says that the call returns exactly what the definition `f` gives.
+- `f x y` is what C writes as f(x, y), and `p.x` is a field. It binds before any sign: `f x ++ g y` is `(f x) ++ (g y)`. With fewer arguments than
+  `f` takes, `f x` is the function of those that are left. `result ≡ f x y` says that the call returns exactly what the definition `f` gives.
 - Below the clauses stand the definitions that they name, then those that these name, down to the words of the toolchain, which the table explains.
   Each definition stands once, where it is first needed, with those under the same comment; elsewhere a link leads to it.
 - A definition has its name and its type: `min_of : Float → Float → Float` makes a float from two. The lines below say what it gives. If they are
-  several, the first whose left side fits decides. What a type has in braces is an argument that is not written. `module _ x where` puts the argument
+  several, the first whose left side fits decides. `A : Type 0` is any type. What a type has in braces is an argument that is not written. `module _ x where` puts the argument
   x before those of each definition in it, wherever others name it.
 - A definition whose type ends in `Type 0` or `Type 1` is a statement about its arguments. A `record .. : Type 0 where` with facts as fields holds
   exactly if every one of them does. A field that is a value, such as `answer : A`, says that there is such a value, of which the fields below it
@@ -46,7 +47,7 @@ WORDS = (
     ("zero suc pos negsuc", "0; `suc n` is n + 1; of ℤ, `pos n` is n and `negsuc n` is -(n + 1)."),
     ("+ - * / % ^ min max", "of ℕ. A difference that would be below 0 is 0. A quotient is rounded down, and `%` is what it leaves. `^` is a power."),
     ("< ≤ <ℤ ≤ℤ", "below; at most: facts of whole numbers."),
-    ("eqb ltb leb int_le", "equal; below; at most, of ℕ and of ℤ: tests."),
+    ("eqb nat_eq ltb leb int_le", "equal, by either word; below; at most, of ℕ and of ℤ: tests."),
     ("neg_ℤ nat_abs -ℤ *ℤ shr_z", "of ℤ: negative, size, difference, product; `shr_z z d` is z / d, rounded down."),
     ("List [] ∷ ++", "a list; none; a first entry before a list; one list before another. `a ∷ b ∷ []` is the list of a and b."),
     ("length take drop", "how many entries; the first n of them; all but the first n."),
@@ -57,6 +58,8 @@ WORDS = (
     ("All Any Contains Memᴰ list_any",
      "each entry meets the fact; some entry does; `Contains l x` and `Memᴰ x l`: x is an entry of l; "
      "the test whether an entry passes a test."),
+    ("pointwise", "`pointwise t l m` is the test whether l and m have as many entries, and t passes those of each place."),
+    ("Decides", "`Decides t P`: the test t is true exactly if P holds."),
     ("position_from", "`position_from f n l` is `Some (n + i)` for the first entry i of l that passes the test f, and else `None`."),
     ("Option Some None", "`Some x`, or `None` where there is none."),
     ("Result Ok Err result_unwrap_or", "`Ok x` is an answer, `Err e` a refusal; `result_unwrap_or r d` is the answer, or d for a refusal."),
@@ -66,7 +69,9 @@ WORDS = (
     ("add sub mul div round",
      "IEEE 754's operations, rounded to the nearest value of the format, a tie to the even one; "
      "`round f s n d` is n / d with the sign s, so rounded."),
-    ("of_int of_bits to_bits", "a whole number as a float, rounded; the float of a bit pattern; the pattern of a float, for NaN 7fc00000."),
+    ("of_int of_bits to_bits nan_bits",
+     "a whole number as a float, rounded; the float of a bit pattern; the pattern of a float, for NaN 7fc00000; "
+     "the test whether a pattern is one of NaN."),
     ("to_unsigned to_signed", "a float cut toward zero to a whole number and held to 0 .. 2 ^ w - 1, or to -2 ^ h .. 2 ^ h - 1; 0 for NaN."),
     ("lt le eq ne", "below; at most; equal; not equal: tests of floats. The two zeros are equal. With NaN only `ne` is true."),
     ("<ᶠ ≤ᶠ", "the facts that `lt` and `le` are true."),
