@@ -1,6 +1,6 @@
 /*
- * Clips a hatch list line by line, and one of its faces in one call, and makes the bytes to save with a line corrected.
- * Then lists the pixels of pen strokes and the tiles of a box, and shows two refusals.
+ * Clips a hatch list line by line, and one of its faces in one call, makes the bytes to save with a line corrected, and
+ * merges both lists. Then lists the pixels of pen strokes and the tiles of a box, and shows two refusals.
  *
  *   ./install PREFIX
  *   cc -std=c99 -IPREFIX/include examples/section.c -LPREFIX/lib -lbagnoszyk -o section
@@ -130,6 +130,14 @@ static void print_saved(const uint8_t *bytes, size_t length) {
     for (size_t i = 0; i < answer.count; i++)
         changed += saved[i] != bytes[i];
     printf("to save: %zu bytes, %zu changed\n", answer.count, changed);
+
+    /* Another draftsman's list is still as it was read: the merged list has all its lines, and the corrected one. */
+    static uint8_t merged[BGZ_HATCH_BYTES_MAX];
+    bgz_merge_answer both = bgz_hatch_merge(bytes, length, saved, answer.count, merged, sizeof merged);
+    if (both.status == BGZ_ANSWERED)
+        printf("merged: %zu bytes\n", both.count);
+    else
+        printf("merged: %s\n", bgz_refusal_text(both.status));
 }
 
 int main(int argc, char **argv) {

@@ -1,16 +1,18 @@
 /*
- * Bagnoszyk 0.3.0: geometry for patent drawings in f32, proved. The C interface, in C99 and C++11 and all later versions.
+ * Bagnoszyk 0.3.1: geometry for patent drawings in f32, proved. The C interface, in C99 and C++11 and all later versions.
  * Made from the Rattle sources by tests/generate. Licence: MIT, see NOTICE (installed under share/doc/bagnoszyk).
  *
  * Calls. Every routine takes any bits in every number, NaN and infinities among them, ends, and gives an answer, none, or
- * the number of a refusal. It keeps no state, allocates nothing and calls nothing outside the library, so threads may call
- * at the same time; a list that one call writes must be in use by no other call. It is built for x86-64 Linux.
+ * the number of a refusal. It keeps no state, allocates nothing and calls nothing outside the library but memset, so
+ * threads may call at the same time; a list that one call writes must be in use by no other call. It is built for x86-64
+ * Linux.
  *
  * Answers. A struct bgz_..._answer has a status: BGZ_ANSWERED (0), BGZ_NONE (255), or the number of a refusal. Where the
- * status is not 0, every other field is 0, but for the place of a refusal that tells one. Conditions of a refusal are
- * listed in the order in which they are tested; the first that holds gives the number. Only routines whose comment says
- * so refuse, or give BGZ_NONE. Which refusals tell a place, and what it counts, stands under Place in a routine's
- * comment; with any other status the place is 0, which is a place too, so look at the status first.
+ * status is not 0, every other field is 0, but for the place of a refusal that tells one, and the list that it is in.
+ * Conditions of a refusal are listed in the order in which they are tested; the first that holds gives the number. Only
+ * routines whose comment says so refuse, or give BGZ_NONE. Which refusals tell a place, and what it counts, stands under
+ * Place in a routine's comment; with any other status the place is 0, which is a place too, so look at the status first.
+ * After a refused merge look at the list too: with list 0 the place tells nothing.
  *
  * Versions. Header and archive must be of one version: a later one may have structs with more fields.
  *
@@ -28,10 +30,11 @@
  *
  * Lists. A list is a pointer to its first entry and the number of its entries; where that number is 0 the pointer may be
  * null. A pointer must be aligned for its type; that many entries must be readable, and writable unless the pointer is to
- * const. A list of bytes is a pointer to void, so that char serves as well as uint8_t. Lists of one call must not overlap.
- * A routine that writes to a list says which entries it writes; the entries beyond them are left as they are. A box that
- * is lent is a pointer to it, never null. A refused call changes no list and no lent box. bgz_hatch_report refuses
- * nothing: of bytes that are no hatch list its text says so.
+ * const. A list of bytes is a pointer to void, so that char serves as well as uint8_t. A list that a call writes must not
+ * overlap another list of that call; lists that it only reads may be the same. A routine that writes to a list says which
+ * entries it writes; the entries beyond them are left as they are. A box that is lent is a pointer to it, never null. A
+ * refused call changes no list and no lent box. bgz_hatch_report refuses nothing: of bytes that are no hatch list its
+ * text says so.
  */
 #ifndef BAGNOSZYK_H
 #define BAGNOSZYK_H
@@ -44,7 +47,7 @@
 extern "C" {
 #endif
 
-#define BAGNOSZYK_VERSION "0.3.0"
+#define BAGNOSZYK_VERSION "0.3.1"
 
 /* ---- limits, and the floats of a line */
 
@@ -319,6 +322,14 @@ typedef struct bgz_read_answer {
     size_t count;     /* The number of records. */
     size_t place;     /* The byte of a refusal, and else 0. */
 } bgz_read_answer;
+
+/* The length of a merged hatch list. */
+typedef struct bgz_merge_answer {
+    uint32_t status;
+    size_t count;     /* The number of bytes. */
+    size_t list;      /* The list of a refusal, 1 or 2, and else 0. */
+    size_t place;     /* The byte of a refusal, and else 0. */
+} bgz_merge_answer;
 
 /* ---- f32: float helpers. */
 
@@ -1022,10 +1033,10 @@ bool bgz_obb3_is_include_point(bgz_obb3 o, bgz_vec3 p, float eps);
 bgz_bool_answer bgz_obb3_is_intersect_to_obb3(bgz_obb3 a, bgz_obb3 b);
 
 /*
- * ---- hatch: hatch lists, read, written and reported on. The bytes of a hatch list are "HSL", a 16-bit version, which
- * is 1, a 16-bit count n of at most 2,000, and n records of eight floats: box (min_x, min_y, max_x, max_y), origin (x,
- * y), direction (x, y). Little-endian; 7 + 32 n bytes in all. Records are read and written as floats, or as patterns,
- * the bits of the floats, in which a NaN keeps its own.
+ * ---- hatch: hatch lists, read, written, merged and reported on. The bytes of a hatch list are "HSL", a 16-bit
+ * version, which is 1, a 16-bit count n of at most 2,000, and n records of eight floats: box (min_x, min_y, max_x,
+ * max_y), origin (x, y), direction (x, y). Little-endian; 7 + 32 n bytes in all. Records are read and written as
+ * floats, or as patterns, the bits of the floats, in which a NaN keeps its own.
  */
 
 /*
@@ -1081,6 +1092,24 @@ bgz_count_answer bgz_hatch_write_patterns(const uint32_t *patterns, size_t patte
  * 0, 128, 64, 0, 0, 0, 64, 0, 0, 192, 64, 0, 0, 128, 191, 0, 0, 128, 191, 0, 0, 128, 63, 9].
  */
 bgz_count_answer bgz_hatch_write_floats(const float *floats, size_t floats_length, void *out, size_t out_length);
+
+/*
+ * Two hatch lists merged into one of version 1: the records of first in its order, with its repeats, and then those of
+ * second in its order that are neither in first nor earlier in second. Two records are the same if all their bits are:
+ * 0 is not -0, and two NaNs are the same only if their bits are. bgz_hatch_read_patterns reads the merged list as these
+ * records. If second has no records, the merged list is first, byte for byte. A call takes some 20,300 bytes of the
+ * stack.
+ * Writes the 7 + 32 * n bytes of the n records to the start of out and answers how many bytes that is. The bytes of
+ * first and of second together, less 7, are always room enough, and so are BGZ_HATCH_BYTES_MAX.
+ * Refused: first, then second, as bgz_hatch_read_patterns refuses them, but for BGZ_REFUSED_ROOM; BGZ_REFUSED_COUNT if
+ * n is above 2,000; BGZ_REFUSED_ROOM if out is shorter than 7 + 32 * n.
+ * Place: list is 1 with a refusal of first and 2 with one of second; place is the byte that bgz_hatch_read_patterns
+ * tells with BGZ_REFUSED_MARK, BGZ_REFUSED_VERSION, BGZ_REFUSED_COUNT or BGZ_REFUSED_LENGTH. Both are 0 if n is above
+ * 2,000 or out is too short.
+ * Example: "HSL\1\0\0\0", "HSL\1\0\0\0", [9; 8] gives 7 and leaves [72, 83, 76, 1, 0, 0, 0, 9].
+ */
+bgz_merge_answer bgz_hatch_merge(const void *first, size_t first_length, const void *second, size_t second_length,
+                                 void *out, size_t out_length);
 
 /*
  * The report on a hatch list, as text in ASCII. The first line is "HSL", version and count. Then each record has a line

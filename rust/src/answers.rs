@@ -2,7 +2,7 @@
 //!
 //! Written by tests/generate from crates/c_answers/src/lib.rt and crates/c_hatch/src/answer.rt; not to be edited.
 
-use crate::refusal::{Refusal, RefusalAt};
+use crate::refusal::{Refusal, RefusalAt, RefusalIn};
 use crate::shapes::{Aabb2, Aabb3, Vec2, Vec3};
 
 /// The status of an answer.
@@ -225,6 +225,24 @@ impl ReadAnswer {
     }
 }
 
+#[repr(C)]
+pub struct MergeAnswer {
+    pub status: u32,
+    /// The number of bytes.
+    pub count: usize,
+    /// The list of a refusal, 1 or 2, and else 0.
+    pub list: usize,
+    /// The byte of a refusal, and else 0.
+    pub place: usize,
+}
+
+impl MergeAnswer {
+    #[inline]
+    pub fn result_in(self) -> Result<usize, RefusalIn> {
+        result_in(self.status, self.count, self.list, self.place)
+    }
+}
+
 #[inline]
 pub(crate) fn option<T>(status: u32, value: T) -> Option<T> {
     (status == ANSWERED).then_some(value)
@@ -250,4 +268,14 @@ pub(crate) fn result_at<T>(
 ) -> Result<T, RefusalAt> {
     result(status, value)
         .map_err(|refusal| RefusalAt { refusal, place: placed.contains(&refusal).then_some(place) })
+}
+
+#[inline]
+pub(crate) fn result_in<T>(
+    status: u32,
+    value: T,
+    list: usize,
+    place: usize,
+) -> Result<T, RefusalIn> {
+    result(status, value).map_err(|refusal| refusal.in_list(list, place))
 }

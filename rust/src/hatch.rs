@@ -1,13 +1,13 @@
-//! Hatch lists, read, written and reported on. The bytes of a hatch list are "HSL", a 16-bit
-//! version, which is 1, a 16-bit count n of at most 2,000, and n records of eight floats: box
-//! (min_x, min_y, max_x, max_y), origin (x, y), direction (x, y). Little-endian; 7 + 32 n bytes in
-//! all. Records are read and written as floats, or as patterns, the bits of the floats, in which a
-//! NaN keeps its own.
+//! Hatch lists, read, written, merged and reported on. The bytes of a hatch list are "HSL", a
+//! 16-bit version, which is 1, a 16-bit count n of at most 2,000, and n records of eight floats:
+//! box (min_x, min_y, max_x, max_y), origin (x, y), direction (x, y). Little-endian; 7 + 32 n bytes
+//! in all. Records are read and written as floats, or as patterns, the bits of the floats, in which
+//! a NaN keeps its own.
 //!
 //! Written by tests/generate from the exported functions bgz_hatch_..; not to be edited.
 
 use crate::answers::Read;
-use crate::refusal::{Refusal, RefusalAt};
+use crate::refusal::{Refusal, RefusalAt, RefusalIn};
 
 mod raw {
     use crate::answers::*;
@@ -47,6 +47,16 @@ mod raw {
             out: *mut u8,
             out_length: usize,
         ) -> CountAnswer;
+
+        #[link_name = "bgz_hatch_merge"]
+        pub fn merge(
+            first: *const u8,
+            first_length: usize,
+            second: *const u8,
+            second_length: usize,
+            out: *mut u8,
+            out_length: usize,
+        ) -> MergeAnswer;
 
         #[link_name = "bgz_hatch_report"]
         pub fn report(
@@ -196,6 +206,53 @@ pub fn write_floats(floats: &[f32], out: &mut [u8]) -> Result<usize, Refusal> {
         raw::write_floats(floats.as_ptr(), floats.len(), out.as_mut_ptr(), out.len())
     };
     a.result()
+}
+
+/// Two hatch lists merged into one of version 1: the records of `first` in its order, with its
+/// repeats, and then those of `second` in its order that are neither in `first` nor earlier in
+/// `second`. Two records are the same if all their bits are: 0 is not -0, and two NaNs are the same
+/// only if their bits are. [`hatch::read_patterns`](crate::hatch::read_patterns) reads the merged
+/// list as these records. If `second` has no records, the merged list is `first`, byte for byte. A
+/// call takes some 20,300 bytes of the stack.
+///
+/// Writes the 7 + 32 * n bytes of the n records to the start of `out` and answers how many bytes
+/// that is. The bytes of `first` and of `second` together, less 7, are always room enough, and so
+/// are [`HATCH_BYTES_MAX`](crate::limits::HATCH_BYTES_MAX).
+///
+/// # Errors
+///
+/// `first`, then `second`, as [`hatch::read_patterns`](crate::hatch::read_patterns) refuses them,
+/// but for [`Refusal::ROOM`]; [`Refusal::COUNT`] if n is above 2,000; [`Refusal::ROOM`] if `out` is
+/// shorter than 7 + 32 * n.
+///
+/// Place: `list` is 1 with a refusal of `first` and 2 with one of `second`; `place` is the byte
+/// that [`hatch::read_patterns`](crate::hatch::read_patterns) tells with [`Refusal::MARK`],
+/// [`Refusal::VERSION`], [`Refusal::COUNT`] or [`Refusal::LENGTH`]. Both are 0 if n is above 2,000
+/// or `out` is too short.
+///
+/// # Example
+///
+/// ```
+/// use bagnoszyk::hatch;
+///
+/// let mut out: [u8; 8] = [9; 8];
+/// assert_eq!(hatch::merge(b"HSL\x01\0\0\0", b"HSL\x01\0\0\0", &mut out), Ok(7));
+/// assert_eq!(out, [72, 83, 76, 1, 0, 0, 0, 9]);
+/// ```
+#[inline]
+pub fn merge(first: &[u8], second: &[u8], out: &mut [u8]) -> Result<usize, RefusalIn> {
+    let a = unsafe {
+        // SAFETY: each list is lent for the call alone, by its start and its length.
+        raw::merge(
+            first.as_ptr(),
+            first.len(),
+            second.as_ptr(),
+            second.len(),
+            out.as_mut_ptr(),
+            out.len(),
+        )
+    };
+    a.result_in()
 }
 
 /// The report on a hatch list, as text in ASCII. The first line is "HSL", version and count. Then

@@ -1,14 +1,15 @@
 //! Geometry for patent drawings in f32, proved: the library's C ABI as safe Rust, a file for each module.
 //!
 //! Every function takes any bits in every number, NaN and infinities among them, and ends. What may be missing is an [`Option`]. What may be
-//! refused is a [`Result`] with a [`Refusal`], or with a [`RefusalAt`] where a refusal may tell a place.
+//! refused is a [`Result`] with a [`Refusal`], with a [`RefusalAt`] where a refusal may tell a place, or with a [`RefusalIn`] where it may tell a
+//! list and a byte of it.
 //!
 //! Under Errors the conditions stand in the order in which they are tested; the first that holds is the refusal. A lent list is written
 //! from its start, and its other entries stay as they are. A refused call changes nothing. Functions keep no state, so threads may call at the
 //! same time.
 //!
 //! ```
-//! use bagnoszyk::{Aabb2, Refusal, Vec2, aabb, aabb2, edge2};
+//! use bagnoszyk::{Aabb2, Refusal, Vec2, aabb, aabb2, edge2, hatch};
 //!
 //! fn stretch(p: Vec2, q: Vec2) -> Result<f32, Refusal> {
 //!     let face = aabb2::add_point(aabb2::from_point(p, 0.0)?, q, 1.0)?;
@@ -30,6 +31,12 @@
 //! assert_eq!(refused.to_string(), "a coordinate of a stroke is not finite (place 2)");
 //! assert_eq!(format!("{refused:?}"), "NOT_FINITE (15) at 2: a coordinate of a stroke is not finite");
 //! assert_eq!(Refusal::from(refused), Refusal::NOT_FINITE);
+//!
+//! let refused = hatch::merge(b"HSL\x01\0\0\0", b"HSL\x02\0\0\0", &mut [0; 7]).unwrap_err();
+//! assert_eq!(refused, Refusal::VERSION.in_list(2, 3));
+//! assert_eq!(refused.to_string(), "a hatch list has an unknown version (list 2, byte 3)");
+//! assert_eq!(format!("{refused:?}"), "VERSION (11) in list 2 at 3: a hatch list has an unknown version");
+//! assert_eq!(Refusal::from(refused), Refusal::VERSION);
 //! ```
 //!
 //! # Floats
@@ -80,6 +87,6 @@ pub mod vec2;
 mod view;
 
 pub use answers::{Interval, Pixels, Read};
-pub use refusal::{Refusal, RefusalAt};
+pub use refusal::{Refusal, RefusalAt, RefusalIn};
 pub use shapes::*;
 pub use view::{Boxes, Boxes3};

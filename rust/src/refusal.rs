@@ -74,6 +74,13 @@ impl Refusal {
         RefusalAt { refusal: self, place: Some(place) }
     }
 
+    /// The refusal at a byte of a list, to compare an error with:
+    /// `refused == Refusal::VERSION.in_list(2, 3)`. Of the merged list both are 0.
+    #[inline]
+    pub const fn in_list(self, list: usize, place: usize) -> RefusalIn {
+        RefusalIn { refusal: self, list, place }
+    }
+
     #[inline]
     pub(crate) const fn numbered(number: u32) -> Self {
         Refusal(number)
@@ -181,3 +188,53 @@ impl fmt::Debug for RefusalAt {
 }
 
 impl Error for RefusalAt {}
+
+/// A refusal of a merge, with the list that is refused and the byte of it.
+#[derive(Clone, Copy, PartialEq, Eq, Hash)]
+pub struct RefusalIn {
+    /// Why the call was refused.
+    pub refusal: Refusal,
+    /// The list: 1 or 2 of the two that are read, and 0 for the merged list.
+    pub list: usize,
+    /// The byte of list 1 or 2, from 0 on. With list 0 it is 0 and tells nothing.
+    pub place: usize,
+}
+
+impl RefusalIn {
+    /// The number of the refusal.
+    #[inline]
+    pub const fn number(self) -> u32 {
+        self.refusal.number()
+    }
+}
+
+/// For `?` in a function whose errors are refusals alone: list and place are dropped.
+impl From<RefusalIn> for Refusal {
+    fn from(told: RefusalIn) -> Self {
+        told.refusal
+    }
+}
+
+impl fmt::Display for RefusalIn {
+    fn fmt(&self, f: &mut fmt::Formatter<'_>) -> fmt::Result {
+        match self.list {
+            0 => write!(f, "{} (the merged list)", self.refusal),
+            list => write!(f, "{} (list {list}, byte {})", self.refusal, self.place),
+        }
+    }
+}
+
+/// Name, number, list, place and text, for the message of a panic.
+impl fmt::Debug for RefusalIn {
+    fn fmt(&self, f: &mut fmt::Formatter<'_>) -> fmt::Result {
+        let (name, text) = self.refusal.name_and_text();
+        match self.list {
+            0 => write!(f, "{name} ({}) of the merged list: {text}", self.number()),
+            list => {
+                write!(f, "{name} ({}) in list {list} at {}: {text}", self.number(), self.place)
+            }
+        }
+    }
+}
+
+impl Error for RefusalIn {}

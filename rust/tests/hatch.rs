@@ -1,7 +1,8 @@
-//! The hatch list through the C ABI: what is read, what is written, what is reported, each refusal, and what becomes of the lent lists.
+//! The hatch list through the C ABI: what is read, written, merged and reported, each refusal, and what becomes of the lent lists.
 
 use bagnoszyk::limits::{HATCH_BYTES_MAX, HATCH_FLOATS_MAX, HATCH_REPORT_MAX};
-use bagnoszyk::{Read, Refusal, RefusalAt, hatch};
+use bagnoszyk::{Read, Refusal, RefusalAt, RefusalIn, hatch};
+use std::ops::Range;
 
 const SECTION: &[u8] = include_bytes!("../../examples/section.hsl");
 const REPORT: &[u8] = include_bytes!("../../crates/hatch_clip/stdout");
@@ -164,4 +165,119 @@ fn a_refused_write_gives_its_number_and_changes_nothing() {
         assert_eq!(hatch::write_floats(&vec![1.0; entries], &mut out), Err(refused));
         assert!(out.iter().all(|&byte| byte == 0x5a));
     }
+}
+
+/// The hatch list of these records. Record n has the bits n eight times.
+fn listed(records: impl IntoIterator<Item = u32>) -> Vec<u8> {
+    let patterns: Vec<_> = records.into_iter().flat_map(|n| [n; 8]).collect();
+    let mut out = vec![0; 7 + 4 * patterns.len()];
+    hatch::write_patterns(&patterns, &mut out).unwrap();
+    out
+}
+
+#[test]
+fn a_merge_keeps_the_first_list_and_adds_what_the_second_has_more() {
+    let cases: [(&[u32], &[u32], &[u32]); 8] = [
+        (&[1, 2], &[2, 3], &[1, 2, 3]),
+        (&[2, 1], &[3, 1, 2], &[2, 1, 3]),
+        (&[1, 1, 2], &[], &[1, 1, 2]),
+        (&[], &[2, 1, 2], &[2, 1]),
+        (&[1, 2, 1], &[3, 1, 3], &[1, 2, 1, 3]),
+        (&[], &[], &[]),
+        // 0 and -0; a NaN and itself, and another.
+        (&[0], &[0x8000_0000], &[0, 0x8000_0000]),
+        (&[0x7fc0_0000], &[0x7fc0_0000, 0xffc0_0000], &[0x7fc0_0000, 0xffc0_0000]),
+    ];
+    for (first, second, merged) in cases {
+        let [first, second, merged] = [first, second, merged].map(|r| listed(r.iter().copied()));
+        let mut out = vec![0x5a; merged.len() + 5];
+        assert_eq!(hatch::merge(&first, &second, &mut out), Ok(merged.len()));
+        assert_eq!(out, [&merged[..], &[0x5a; 5]].concat());
+    }
+}
+
+#[test]
+fn a_list_merged_with_itself_or_with_none_is_itself() {
+    for second in [SECTION, &listed([])] {
+        let mut out = vec![0x5a; SECTION.len()];
+        assert_eq!(hatch::merge(SECTION, second, &mut out), Ok(SECTION.len()));
+        assert_eq!(out, SECTION);
+    }
+}
+
+#[test]
+fn a_merged_list_has_at_most_2000_records() {
+    let fit: [(Range<u32>, Range<u32>); 6] = [
+        (0..2000, 0..0),
+        (0..0, 0..2000),
+        (0..2000, 0..2000),
+        (0..1999, 1999..2000),
+        (0..1, 1..2000),
+        (0..1000, 500..2000),
+    ];
+    for (first, second) in fit {
+        let mut out = vec![0x5a; HATCH_BYTES_MAX];
+        assert_eq!(hatch::merge(&listed(first), &listed(second), &mut out), Ok(HATCH_BYTES_MAX));
+        assert_eq!(out, listed(0..2000));
+    }
+    let too_many =
+        [(0..2000, 2000..2001), (0..1, 1..2001), (0..2000, 1..2001), (0..2000, 2000..4000)];
+    for (first, second) in too_many {
+        // Too many records are tested before a list that is too short.
+        for room in [0, HATCH_BYTES_MAX, HATCH_BYTES_MAX + 32] {
+            let mut out = vec![0x5a; room];
+            let merged = hatch::merge(&listed(first.clone()), &listed(second.clone()), &mut out);
+            assert_eq!(merged, Err(Refusal::COUNT.in_list(0, 0)));
+            assert!(out.iter().all(|&byte| byte == 0x5a));
+        }
+    }
+}
+
+#[test]
+fn a_refused_merge_gives_number_list_and_byte_and_changes_nothing() {
+    let good = listed([1, 2]);
+    let cut = &good[..good.len() - 1];
+    let longer = [&good[..], &[0]].concat();
+    let damaged: [(&[u8], Refusal, usize); 7] = [
+        (b"", Refusal::MARK, 0),
+        (b"HSL\x01\0\0", Refusal::LENGTH, 6),
+        // The version is tested before the count, and the count before the length.
+        (b"HSL\x02\0\xd1\x07", Refusal::VERSION, 3),
+        (b"HSL\x01\0\xd1\x07", Refusal::COUNT, 5),
+        (b"HSL\x01\0\xd0\x07", Refusal::LENGTH, 7),
+        (cut, Refusal::LENGTH, cut.len()),
+        (&longer, Refusal::LENGTH, good.len()),
+    ];
+    let refuses = |first: &[u8], second: &[u8], room: usize, refused: RefusalIn| {
+        let mut out = vec![0x5a; room];
+        assert_eq!(hatch::merge(first, second, &mut out), Err(refused));
+        assert!(out.iter().all(|&byte| byte == 0x5a));
+    };
+    for (bytes, refusal, place) in damaged {
+        // A refusal of the first list comes before one of the second, and both before one of the merged list.
+        for room in [0, HATCH_BYTES_MAX] {
+            refuses(bytes, &good, room, refusal.in_list(1, place));
+            refuses(&good, bytes, room, refusal.in_list(2, place));
+            for (other, _, _) in damaged {
+                refuses(bytes, other, room, refusal.in_list(1, place));
+            }
+        }
+    }
+    refuses(&good, &good, good.len() - 1, Refusal::ROOM.in_list(0, 0));
+    refuses(&good, &listed([2, 3]), good.len() + 31, Refusal::ROOM.in_list(0, 0));
+    refuses(&listed([]), &listed([]), 6, Refusal::ROOM.in_list(0, 0));
+}
+
+#[test]
+fn a_refusal_of_a_merge_says_where_it_is() {
+    let told = Refusal::LENGTH.in_list(2, 39);
+    assert_eq!((told.number(), Refusal::from(told)), (13, Refusal::LENGTH));
+    let text = "the bytes of a hatch list are too few or too many";
+    assert_eq!(told.to_string(), format!("{text} (list 2, byte 39)"));
+    assert_eq!(format!("{told:?}"), format!("LENGTH (13) in list 2 at 39: {text}"));
+
+    let merged = Refusal::COUNT.in_list(0, 0);
+    let text = "a hatch list has too many records";
+    assert_eq!(merged.to_string(), format!("{text} (the merged list)"));
+    assert_eq!(format!("{merged:?}"), format!("COUNT (12) of the merged list: {text}"));
 }

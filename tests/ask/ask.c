@@ -71,6 +71,21 @@ bool tells_place(const struct routine *routine, uint32_t status) {
     return status <= last_refusal && (routine->places >> status & 1) != 0;
 }
 
+static size_t count_read(const struct routine *routine) {
+    size_t count = 0;
+    for (const char *letter = routine->lists; *letter != '\0'; letter++)
+        count += is_read(*letter);
+    return count;
+}
+
+bool tells_rightly(const struct routine *routine, const struct answer *answer) {
+    if (!tells_place(routine, answer->status))
+        return answer->list == 0 && answer->place == 0;
+    if (!routine->tells_list)
+        return answer->list == 0;
+    return answer->list <= count_read(routine) && (answer->list != 0 || answer->place == 0);
+}
+
 size_t entries_written(const struct routine *routine, const struct answer *answer) {
     for (size_t i = 0; routine->gives[i] != '\0'; i++)
         if (routine->gives[i] == 'l' || routine->gives[i] == 'e')
@@ -94,34 +109,37 @@ static size_t place_of_room(const char *takes) {
 }
 
 /*
- * The length of the list to lend: the room, cut where it exceeds all that can be written. A routine that reads a list
- * writes at most four entries for each entry of that list, and the bytes of a header; one entry more is lent.
+ * The length of the list to lend: the room, cut where it exceeds all that can be written. A routine that reads lists
+ * writes at most four entries for each entry of those lists, and the bytes of a header; one entry more is lent.
  */
 static size_t lent_length(const struct routine *routine, const struct input *input) {
     bool reads = strpbrk(routine->lists, "FPB") != NULL;
-    uint64_t read = input->float_count + input->pattern_count + input->byte_count;
+    uint64_t read = input->float_count + input->pattern_count;
+    for (size_t i = 0; i < MOST_BYTE_LISTS; i++)
+        read += input->bytes[i].length;
     uint64_t most = reads ? HEADER_BYTES + FLOAT_BYTES * read + 1 : MOST_ENTRIES;
     uint64_t room = input->wholes[place_of_room(routine->takes)];
     return room < most ? room : most;
 }
 
-/* The list that a routine reads, by its letter. */
-static struct list read_list(const struct routine *routine, const struct input *input, char letter) {
+/* The list that a routine reads, by its letter; of several lists of bytes the one at this place among them. */
+static struct list read_list(const struct routine *routine, const struct input *input, char letter, size_t place) {
     size_t single = single_floats(routine->takes);
     if (letter == 'F')
         return (struct list){input->floats + single, input->float_count - single};
     if (letter == 'P')
         return (struct list){input->patterns, input->pattern_count};
-    return (struct list){input->bytes, input->byte_count};
+    return input->bytes[place];
 }
 
 struct reply ask(const struct routine *routine, const struct input *input) {
     struct arguments in = {.floats = input->floats, .wholes = input->wholes};
     struct reply reply = {.list = NULL};
-    size_t size = entry_size(routine->lists[0]);
+    size_t size = entry_size(routine->lists[0]), byte_lists = 0;
     for (size_t i = 0; routine->lists[i] != '\0'; i++) {
         if (is_read(routine->lists[i])) {
-            in.lists[i] = read_list(routine, input, routine->lists[i]);
+            in.lists[i] = read_list(routine, input, routine->lists[i], byte_lists);
+            byte_lists += routine->lists[i] == 'B';
         } else {
             in.lists[i].length = lent_length(routine, input);
             in.lists[i].start = reply.list = lend(size * in.lists[i].length);
@@ -131,7 +149,7 @@ struct reply ask(const struct routine *routine, const struct input *input) {
     const struct answer *answer = &reply.answer;
     bool answered = answer->status == BGZ_ANSWERED;
     reply.damaged = !answered && !is_empty(routine, answer);
-    reply.damaged |= answer->place != 0 && !tells_place(routine, answer->status);
+    reply.damaged |= !tells_rightly(routine, answer);
     if (reply.list != NULL) {
         size_t written = answered ? entries_written(routine, answer) : 0;
         reply.damaged |= is_damaged(reply.list, size, written, in.lists[0].length);

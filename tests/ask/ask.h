@@ -3,11 +3,10 @@
 #define ASK_H
 
 #include "routines.h"
-#include <stdbool.h>
 
 /*
  * What is handed to a routine: its floats, those of a list too, its whole numbers, rooms among them, the bits of floats, and
- * its bytes.
+ * its lists of bytes.
  */
 struct input {
     float *floats;
@@ -15,8 +14,7 @@ struct input {
     uint64_t wholes[MOST_WHOLES];
     uint32_t *patterns;
     size_t pattern_count;
-    uint8_t *bytes;
-    size_t byte_count;
+    struct list bytes[MOST_BYTE_LISTS];
 };
 
 /* What came back from a routine. */
@@ -26,7 +24,7 @@ struct reply {
     void *list;
     /*
      * The routine broke a rule of bagnoszyk.h: it told of more entries than there was room for, changed an entry that it
-     * should not have, or gave a number beside a refusal or none.
+     * should not have, gave a number beside a refusal or none, or told a list or a place wrongly.
      */
     bool damaged;
 };
@@ -51,6 +49,12 @@ bool is_empty(const struct routine *routine, const struct answer *answer);
 
 /* Whether the status is a refusal that tells a place. */
 bool tells_place(const struct routine *routine, uint32_t status);
+
+/*
+ * Whether an answer tells list and place as it may: each is 0 where none is told, and the list is one of those that are
+ * read.
+ */
+bool tells_rightly(const struct routine *routine, const struct answer *answer);
 
 /* Whether a list is only read, and the bytes of one of its entries, by its letter. */
 bool is_read(char letter);

@@ -56,6 +56,43 @@ static void place_of_an_answer(const struct arguments *in, struct answer *out) {
     out->place = 2;
 }
 
+/* A refusal of list 2 of the two that are read, and one of none of them. */
+static void refused_in(const struct arguments *in, struct answer *out) {
+    refused_at(in, out);
+    out->list = 2;
+}
+
+static void refused_in_none(const struct arguments *in, struct answer *out) {
+    refused(in, out);
+}
+
+static void place_in_none(const struct arguments *in, struct answer *out) {
+    refused_at(in, out);
+}
+
+static void unknown_list(const struct arguments *in, struct answer *out) {
+    refused_at(in, out);
+    out->list = 3;
+}
+
+static void list_not_told(const struct arguments *in, struct answer *out) {
+    refused(in, out);
+    out->status = 4;
+    out->list = 2;
+}
+
+static void list_of_an_answer(const struct arguments *in, struct answer *out) {
+    (void)in;
+    out->status = BGZ_ANSWERED;
+    out->values[0].u = 0;
+    out->list = 1;
+}
+
+/* The routine has refusals that tell a place, and none that tells a list. */
+static void list_beside_a_place(const struct arguments *in, struct answer *out) {
+    refused_in(in, out);
+}
+
 static void unknown_status(const struct arguments *in, struct answer *out) {
     refused(in, out);
     out->status = last_refusal + 1;
@@ -87,9 +124,10 @@ static void one_more_byte(const struct arguments *in, struct answer *out) {
     out->values[0].u = 2;
 }
 
-/* Refusal 3 tells a place. */
-#define ROW_OF(name, letter) {#name, #name, name, "r", letter, "l", "room", UINT32_C(1) << 3}
+/* Refusal 3 tells a place, and of a routine that reads two lists also a list. */
+#define ROW_OF(name, letter) {#name, #name, name, "r", letter, "l", "room", UINT32_C(1) << 3, false}
 #define ROW(name) ROW_OF(name, "u")
+#define ROW_OF_TWO(name) {#name, #name, name, "rBB", "bBB", "l", "room first second", UINT32_C(1) << 3, true}
 
 const struct routine routines[] = {
     ROW(two),
@@ -101,6 +139,13 @@ const struct routine routines[] = {
     ROW(told_and_refused),
     ROW(place_not_told),
     ROW(place_of_an_answer),
+    ROW_OF_TWO(refused_in),
+    ROW_OF_TWO(refused_in_none),
+    ROW_OF_TWO(place_in_none),
+    ROW_OF_TWO(unknown_list),
+    ROW_OF_TWO(list_not_told),
+    ROW_OF_TWO(list_of_an_answer),
+    ROW(list_beside_a_place),
     ROW(unknown_status),
     ROW(endless),
     ROW(changing),

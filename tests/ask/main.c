@@ -22,8 +22,8 @@ static const char HELP[] =
     "                are a decimal if there are at most six, and bits if there are eight; 1048576 is written 1048576.0.\n"
     "                Infinity and NaN are given as bits: 7f800000, 7fc00000.\n"
     "  whole number  decimal; marked :u by --list. The one named room is the length of the list that the routine is lent\n"
-    "                to write to, in entries: floats for hatch.read, bytes for hatch.write. It may be any; what exceeds\n"
-    "                all that can be written is cut.\n"
+    "                to write to, in entries: floats for hatch.read, bytes for hatch.write and hatch.merge. It may be any;\n"
+    "                what exceeds all that can be written is cut.\n"
     "  list          any number of floats, marked :f* by --list; or of the bits of floats, eight digits each, which are\n"
     "                kept as they are: marked :p*.\n"
     "  bytes         one word, two hexadecimal digits a byte, - for none; marked :b by --list.\n"
@@ -35,14 +35,15 @@ static const char HELP[] =
     "An answer is one of these:\n"
     "  numbers       a float as its bits, any zero as 00000000 and any NaN as nan, or with --decimal in decimal; whole\n"
     "                numbers in decimal; 1 for yes and 0 for no.\n"
-    "  a list        its count and its entries, bytes as one word. What reads a hatch list gives the version first.\n"
+    "  a list        its count and its entries, bytes as one word. hatch.read and hatch.read_floats give the version first.\n"
     "  none          there is none of what was asked for.\n"
-    "  refused N     by the numbers of bagnoszyk.h, with the place after it where the refusal tells one.\n"
+    "  refused N     by the numbers of bagnoszyk.h, with the place after it where the refusal tells one. After a refusal of\n"
+    "                hatch.merge stand the list, 1 or 2, and its byte, or 0 0 if the merged list is refused.\n"
     "  bad request   the routine was not called, and standard error says why.\n"
     "  damaged       the routine changed an entry that it should not have, told of more entries than there was room for,\n"
-    "                or gave numbers beside a refusal: a fault of the library.\n"
-    "hatch.read and hatch.write keep the bits of floats as they are, with --decimal too. hatch.read_floats gives floats, and\n"
-    "hatch.write_floats writes any NaN as 7fc00000.\n"
+    "                gave numbers beside a refusal, or told a list or a place wrongly: a fault of the library.\n"
+    "hatch.read, hatch.write and hatch.merge keep the bits of floats as they are, with --decimal too. hatch.read_floats\n"
+    "gives floats, and hatch.write_floats writes any NaN as 7fc00000.\n"
     "\n"
     "Exit status: 0; 1 if a request given as arguments is bad, an option is unknown, or reading or writing fails.\n"
     "\n"
@@ -50,7 +51,8 @@ static const char HELP[] =
     "  ./ask --decimal aabb.lines 0 0 4 2 6 6 -1 -1 1 6 -1 1 1            answers: 6 1 2 3 0 0 0, with room for six\n"
     "  ./ask edge2.overlapping_pixels_dda 8 8 0.5 0.5 7fc00000 0.5 9      answers: refused 15 2\n"
     "  ./ask hatch.read 8 48534c02000000                                  answers: refused 11 3\n"
-    "  ./ask hatch.write 7                                                answers: 7 48534c01000000, a list of no records\n";
+    "  ./ask hatch.write 7                                                answers: 7 48534c01000000, a list of no records\n"
+    "  ./ask hatch.merge 7 48534c01000000 48534c02000000                  answers: refused 11 2 3\n";
 
 /* Ends the program after a call that failed. */
 static void fail(const char *what) {

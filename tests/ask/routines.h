@@ -5,11 +5,12 @@
 #ifndef ROUTINES_H
 #define ROUTINES_H
 
+#include <stdbool.h>
 #include <stddef.h>
 #include <stdint.h>
 
 /* The most that a routine has of each. tests/generate refuses a routine that has more. */
-enum { MOST_FLOATS = 24, MOST_WHOLES = 8, MOST_LISTS = 3, MOST_VALUES = 24 };
+enum { MOST_FLOATS = 24, MOST_WHOLES = 8, MOST_LISTS = 3, MOST_BYTE_LISTS = 2, MOST_VALUES = 24 };
 
 /* A list as C hands it over: its start and the number of its entries. */
 struct list {
@@ -31,9 +32,10 @@ union value {
     int64_t i;
 };
 
-/* Status and place are those of bagnoszyk.h. Of a routine without a status the status is 0, of one without a place the place. */
+/* Status, list and place are those of bagnoszyk.h. What a routine does not have of these is 0. */
 struct answer {
     uint32_t status;
+    uint64_t list;
     uint64_t place;
     union value values[MOST_VALUES];
 };
@@ -46,7 +48,7 @@ struct routine {
     /*
      * A letter for each field of a request: f is a float and u a whole number; r is the room of a list to be written,
      * and takes a place among the whole numbers; F is the floats of a list, as many as there are, P the bits of floats,
-     * and B its bytes. Lists of no fixed length stand last.
+     * and B the bytes of a list. Lists of no fixed length stand last.
      */
     const char *takes;
     /*
@@ -63,6 +65,8 @@ struct routine {
     const char *fields;
     /* The refusals that tell a place: bit N is set if refusal N does. */
     uint32_t places;
+    /* Whether each refusal tells a list before the place: 1 for the first that is read and so on, or 0 with place 0. */
+    bool tells_list;
 };
 
 extern const struct routine routines[];

@@ -55,18 +55,20 @@ static const char *read_pattern(const char *field, uint32_t *bits) {
 }
 
 /* Null, or what the field is instead of bytes. */
-static const char *read_bytes(const char *field, uint8_t *bytes, size_t *count) {
+static const char *read_bytes(const char *field, struct list *list) {
     if (strcmp(field, "-") == 0)
         return NULL;
     size_t length = strlen(field);
+    uint8_t *bytes = list->start;
     if (!has_only(field, HEX_DIGITS))
         return "no bytes: they are hexadecimal digits, or - for none";
     if (length % 2 != 0)
         return "no bytes: they are two digits each, and these are odd in number";
-    for (; *count < length / 2; ++*count) {
-        char digits[] = {field[2 * *count], field[2 * *count + 1], '\0'};
-        bytes[*count] = (uint8_t)strtoul(digits, NULL, 16);
+    for (size_t i = 0; i < length / 2; i++) {
+        char digits[] = {field[2 * i], field[2 * i + 1], '\0'};
+        bytes[i] = (uint8_t)strtoul(digits, NULL, 16);
     }
+    list->length = length / 2;
     return NULL;
 }
 
@@ -134,22 +136,29 @@ static bool right_count(struct request *request, size_t given) {
     return false;
 }
 
+/* How many fields of the kinds of which an input does not tell it were read. */
+struct counts {
+    size_t wholes;
+    size_t byte_lists;
+};
+
 /* Null, or what the field is instead of what it should be. */
-static const char *read_field(struct input *input, char letter, const char *field, size_t *whole_count) {
+static const char *read_field(struct input *input, char letter, const char *field, struct counts *counts) {
     if (letter == 'f' || letter == 'F')
         return read_float(field, &input->floats[input->float_count++]);
     if (letter == 'P')
         return read_pattern(field, &input->patterns[input->pattern_count++]);
     if (letter == 'B')
-        return read_bytes(field, input->bytes, &input->byte_count);
-    return read_whole(field, &input->wholes[(*whole_count)++]);
+        return read_bytes(field, &input->bytes[counts->byte_lists++]);
+    return read_whole(field, &input->wholes[counts->wholes++]);
 }
 
 static bool read_fields(struct request *request, char *rest) {
     const char *takes = request->routine->takes;
-    size_t place = 0, whole_count = 0;
+    size_t place = 0;
+    struct counts counts = {0, 0};
     for (char *field; (field = next_field(&rest)) != NULL;) {
-        const char *wrong = read_field(&request->input, takes[place], field, &whole_count);
+        const char *wrong = read_field(&request->input, takes[place], field, &counts);
         if (wrong != NULL) {
             int length;
             const char *name = field_name(request->routine, place, &length);
@@ -172,6 +181,15 @@ static const char *wrong_line(const char *line, size_t length) {
     return last == ' ' || strstr(line, "  ") != NULL ? "one space between fields, none at the end" : NULL;
 }
 
+static void *room_for(size_t count, size_t size) {
+    void *start = calloc(count, size);
+    if (start == NULL) {
+        perror("no memory for a request");
+        exit(1);
+    }
+    return start;
+}
+
 bool read_request(char *line, struct request *request) {
     size_t most = strlen(line);
     *request = (struct request){.routine = NULL};
@@ -190,20 +208,18 @@ bool read_request(char *line, struct request *request) {
     if (!right_count(request, count_fields(rest)))
         return false;
     struct input *input = &request->input;
-    input->floats = calloc(most + 1, sizeof *input->floats);
-    input->patterns = calloc(most + 1, sizeof *input->patterns);
-    input->bytes = calloc(most + 1, sizeof *input->bytes);
-    if (input->floats == NULL || input->patterns == NULL || input->bytes == NULL) {
-        perror("no memory for a request");
-        exit(1);
-    }
+    input->floats = room_for(most + 1, sizeof *input->floats);
+    input->patterns = room_for(most + 1, sizeof *input->patterns);
+    for (size_t i = 0; i < MOST_BYTE_LISTS; i++)
+        input->bytes[i].start = room_for(most + 1, 1);
     return read_fields(request, rest);
 }
 
 void free_request(struct request *request) {
     free(request->input.floats);
     free(request->input.patterns);
-    free(request->input.bytes);
+    for (size_t i = 0; i < MOST_BYTE_LISTS; i++)
+        free(request->input.bytes[i].start);
 }
 
 /* ---- as text */
@@ -230,13 +246,15 @@ char *request_text(const struct routine *routine, const struct input *input) {
     FILE *out = open_text(&text, &length);
     const float *floats = input->floats, *end = floats + input->float_count;
     const uint64_t *wholes = input->wholes;
+    const struct list *bytes = input->bytes;
     fputs(routine->name, out);
     for (const char *letter = routine->takes; *letter != '\0'; letter++) {
         if (*letter == 'u' || *letter == 'r')
             fprintf(out, " %" PRIu64, *wholes++);
-        else if (*letter == 'B')
-            write_bytes(out, input->bytes, input->byte_count);
-        else if (*letter == 'P')
+        else if (*letter == 'B') {
+            write_bytes(out, bytes->start, bytes->length);
+            bytes++;
+        } else if (*letter == 'P')
             for (size_t i = 0; i < input->pattern_count; i++)
                 fprintf(out, " %08" PRIx32, input->patterns[i]);
         for (bool more = *letter == 'f' || *letter == 'F'; more && floats < end; more = *letter == 'F') {
@@ -285,6 +303,14 @@ static void write_answer(FILE *out, const struct routine *routine, const struct 
     }
 }
 
+static void write_refusal(FILE *out, const struct routine *routine, const struct answer *answer) {
+    fprintf(out, "refused %" PRIu32, answer->status);
+    if (routine->tells_list)
+        fprintf(out, " %" PRIu64 " %" PRIu64, answer->list, answer->place);
+    else if (tells_place(routine, answer->status))
+        fprintf(out, " %" PRIu64, answer->place);
+}
+
 char *reply_text(const struct routine *routine, const struct reply *reply, bool decimal) {
     char *text;
     size_t length;
@@ -297,9 +323,7 @@ char *reply_text(const struct routine *routine, const struct reply *reply, bool 
     else if (status == BGZ_ANSWERED)
         write_answer(out, routine, reply, decimal);
     else
-        fprintf(out, "refused %" PRIu32, status);
-    if (!reply->damaged && tells_place(routine, status))
-        fprintf(out, " %" PRIu64, reply->answer.place);
+        write_refusal(out, routine, &reply->answer);
     fclose(out);
     return text;
 }

@@ -36,6 +36,9 @@ int main(void) {
     expect("floats", bgz_hatch_read_floats(none, sizeof none, NULL, 0).status, BGZ_ANSWERED);
     expect("patterns", bgz_hatch_read_patterns(none, sizeof none, NULL, 0).status, BGZ_ANSWERED);
     expect("records", (uint32_t)bgz_hatch_record_count(NULL, 0), 0);
+    expect("no first", bgz_hatch_merge(NULL, 0, none, sizeof none, NULL, 0).status, BGZ_REFUSED_MARK);
+    expect("no second", bgz_hatch_merge(none, sizeof none, NULL, 0, NULL, 0).status, BGZ_REFUSED_MARK);
+    expect("merged", bgz_hatch_merge(none, sizeof none, none, sizeof none, NULL, 0).status, BGZ_REFUSED_ROOM);
     expect("report", (uint32_t)bgz_hatch_report(NULL, 0, NULL, 0), sizeof "refused 10 0\n" - 1);
 
     if (strcmp(bgz_refusal_text(BGZ_REFUSED_SAME_ENDS), "both ends of a stroke are equal") != 0)

@@ -61,7 +61,7 @@ def answer(f, value, model):
     """What the function's answer must equal."""
     kind, struct = model.kind(f), model.structs.get(f.result)
     if struct is None or not struct.is_answer:
-        return "Ok(())" if kind.refused else literal(value, f.result, model)
+        return "Ok(())" if kind.error else literal(value, f.result, model)
     fields = struct.answered
     if value == "none":
         text = "None"
@@ -71,7 +71,7 @@ def answer(f, value, model):
         inner = ", ".join(f"{x.name}: {number(v, x.type.name)}" for x, v in zip(fields, value))
         text = f"{struct.name.removesuffix('Answer')} {{ {inner} }}"
     text = f"Some({text})" if kind.none and value != "none" else text
-    return f"Ok({text})" if kind.refused else text
+    return f"Ok({text})" if kind.error else text
 
 
 def code(f, model):

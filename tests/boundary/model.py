@@ -5,7 +5,8 @@ that this module does not read is an error, so nothing that is exported can be l
 
 A comment is text, in which code stands in backticks, a refusal or a limit by its name, as `ROOM`, and a function as `module::name`. Four
 kinds of paragraphs begin with a word of their own and stand last: `Writes` what is left in lent lists, `Refused: ` the conditions in the
-order in which they are tested, `Place: ` what the refusals that it names tell beside their numbers, `Example: ` arguments and what they give.
+order in which they are tested, `Place: ` what the refusals that it names tell beside their numbers, a place or a list and a place in it,
+`Example: ` arguments and what they give.
 """
 
 import dataclasses
@@ -19,6 +20,9 @@ ROOT = pathlib.Path(__file__).resolve().parent.parent.parent
 SCALARS = ("bool", "u8", "u32", "i32", "usize", "f32")
 COMMENT = r"((?:^ *//[^\n]*\n)*)"
 ATTRIBUTES = r"(?:#\[[^\n]*\]\n)*"
+# The errors of answers, and the fields in which C is told more of one than its number.
+ERRORS = {"Refusal": (), "RefusalAt": ("place",), "RefusalIn": ("list", "place")}
+TOLD = ERRORS["RefusalIn"]
 
 
 @dataclasses.dataclass(frozen=True)
@@ -71,8 +75,12 @@ class Struct:
 
     @property
     def answered(self):
-        """The fields of an answer but its status and the place of a refusal."""
-        return tuple(f for f in self.fields if f.name not in ("status", "place"))
+        """The fields of an answer but its status, and the list and the place of a refusal."""
+        return tuple(f for f in self.fields if f.name not in ("status", *TOLD))
+
+    @property
+    def told(self):
+        return tuple(f.name for f in self.fields if f.name in TOLD)
 
 
 @dataclasses.dataclass(frozen=True)
@@ -108,11 +116,14 @@ class Refusal:
 
 @dataclasses.dataclass(frozen=True)
 class Enum:
-    """What an answer can be beside what was asked for: none of it, a refusal, one that may have a place."""
+    """What an answer can be beside what was asked for: none of it, or an error."""
 
     none: bool
-    refused: bool
-    placed: bool
+    error: str  # one of ERRORS, or nothing
+
+    @property
+    def told(self):
+        return ERRORS.get(self.error, ())
 
 
 @dataclasses.dataclass(frozen=True)
@@ -123,13 +134,9 @@ class Model:
     enums: dict
     modules: dict  # the comment on each
 
-    def enum(self, function):
-        return self.enums[function.enum] if function.enum else Enum(False, False, False)
-
     def kind(self, function):
-        """What the contract and the comment say of a function's answer."""
-        enum = self.enum(function)
-        return Enum(enum.none, enum.refused, bool(self.places(function)))
+        """What the contract says of a function's answer."""
+        return self.enums[function.enum] if function.enum else Enum(False, "")
 
     def places(self, function):
         """The refusals of a function that tell a place."""
@@ -187,7 +194,10 @@ def structs_of(source):
 def enums_of(definitions):
     """Of each definition that turns an answer into what C sees, what its argument can be: `f : Result (Option Float) Refusal → FloatAnswer`."""
     for name, answer in re.findall(r"^abbrev pub (\w*answer(?:_at)?_of|status_of) : (?:\{.*?\} → )?(.*?) → \w+$", definitions, re.M):
-        yield name, Enum("Option" in answer or answer == "Interval", "Result" in answer, "RefusalAt" in answer)
+        error = answer.split()[-1] if "Result" in answer else ""
+        if error and error not in ERRORS:
+            sys.exit(f"boundary: {name} is of an error that is not read: {error}")
+        yield name, Enum("Option" in answer or answer == "Interval", error)
 
 
 def refusals_of(source):
@@ -220,6 +230,9 @@ def read(library=None):
     structs.sort(key=lambda s: s.is_answer)
     model = Model(tuple(functions), {s.name: s for s in structs}, refusals, enums, modules)
     for function in functions:
-        if bool(model.places(function)) != model.enum(function).placed:
+        told, struct = model.kind(function).told, model.structs.get(function.result)
+        if bool(model.places(function)) != bool(told):
             sys.exit(f"boundary: {function.symbol} and its comment differ on the places of refusals")
+        if told and told != (struct.told if struct else ()):
+            sys.exit(f"boundary: {function.symbol} answers {function.result}, which has not the fields for what its refusals tell")
     return model

@@ -5,6 +5,7 @@ import re
 import sys
 
 import c
+from model import TOLD
 
 FORM = pathlib.Path(__file__).resolve().parent.parent / "ask/routines.h"
 WIDTH = 120
@@ -37,7 +38,7 @@ LISTS = {
 # Functions that write the bits of floats, as u32.
 PATTERNS = {"bgz_hatch_read_patterns"}
 # What an answer tells of the first list, in the place of its last number.
-WRITTEN = {"CountAnswer": "l", "ReadAnswer": "e"}
+WRITTEN = {"CountAnswer": "l", "MergeAnswer": "l", "ReadAnswer": "e"}
 
 HEAD = """\
 /* Written by tests/generate from the functions that the Rattle sources export. */
@@ -86,8 +87,8 @@ class Call:
         if not self.lent:
             answered = [(f"r{path}", letter_of(t)) for path, t in model.scalars(function.result)]
             paths = [path for path, _ in answered]
-            self.has_status, self.has_place = "r.status" in paths, "r.place" in paths
-            self.values = [(path, letter) for path, letter in answered if path not in ("r.status", "r.place")]
+            self.has_status, self.told = "r.status" in paths, [field for field in TOLD if f"r.{field}" in paths]
+            self.values = [(path, letter) for path, letter in answered if path.removeprefix("r.") not in ("status", *TOLD)]
 
     def hand(self, parameter):
         """Adds a parameter's fields, and gives the C text that hands it over."""
@@ -138,6 +139,10 @@ class Call:
         """The refusals that tell a place, as C text."""
         return " | ".join(f"AT({r.name})" for r in self.model.places(self.function)) or "0"
 
+    @property
+    def tells_list(self):
+        return "true" if "list" in self.model.kind(self.function).told else "false"
+
     def statements(self):
         if self.count("f"):
             yield "const float *f = in->floats;"
@@ -155,8 +160,8 @@ class Call:
         else:
             yield f"{c.type_name(self.function.result)} r = {call}"
             yield f"out->status = {'r.status' if self.has_status else 'BGZ_ANSWERED'};"
-            if self.has_place:
-                yield "out->place = r.place;"
+            for field in self.told:
+                yield f"out->{field} = r.{field};"
         for i, (path, letter) in enumerate(self.values):
             yield f"out->values[{i}].{letter} = {path};"
 
@@ -175,11 +180,12 @@ class Call:
         takes = "".join(letter for _, letter in self.fields)
         fields = " ".join(name for name, _ in self.fields)
         yield f'    {{{self.request}, CALL({self.name}), "{takes}", "{"".join(self.lists)}", "{self.gives}",'
-        yield f'     "{fields}", {self.places}}},'
+        yield f'     "{fields}", {self.places}, {self.tells_list}}},'
 
     def hold(self, most):
         """Ends if a routine has more than the table's form has room for."""
         counts = {"FLOATS": self.count("f"), "WHOLES": self.count("ur"), "LISTS": len(self.lists), "VALUES": len(self.values)}
+        counts["BYTE_LISTS"] = self.lists.count("B")
         for what, count in counts.items():
             if count > most[what]:
                 sys.exit(f"routines: {self.function.symbol} needs {count}: raise MOST_{what} of tests/ask/routines.h")

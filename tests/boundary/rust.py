@@ -3,7 +3,8 @@
 import re
 
 import example
-from rust_text import answer_name, comment, conversion, converted, origin, signature, value_type
+from model import ERRORS
+from rust_text import answer_name, comment, conversion, converted, origin, signature, takes_places, value_type
 from rust_types import answers_file, limits_file, refusal_file, shapes_file
 
 
@@ -62,7 +63,7 @@ def body(f, model):
     lists = any(p.type.list for p in f.parameters)
     call = signature(f"raw::{f.name}", [text for p in f.parameters for text in arguments(p)], "", 8 if lists else 4)
     call = [line[4:] for line in call]
-    placed = f"&[{', '.join(f'Refusal::{r.name}' for r in model.places(f))}]" if model.places(f) else ""
+    placed = f"&[{', '.join(f'Refusal::{r.name}' for r in model.places(f))}]" if takes_places(model.kind(f)) else ""
     turned = f".{conversion(model.kind(f))}({placed})" if f.enum else ""
     if f.enum and f.result not in model.structs:
         yield f"answers::result({call[0]}, ())"
@@ -81,12 +82,12 @@ def uses(functions, model):
     """The lines that bring in what the functions name."""
     texts = [safe_parameter(p) for f in functions for p in f.parameters] + [answer_type(f, model) for f in functions]
     words = set(re.findall(r"\w+", " ".join(texts)))
-    if any(model.places(f) for f in functions):
+    if any(takes_places(model.kind(f)) for f in functions):
         words.add("Refusal")
     several = {answer_name(s) for s in model.structs.values() if s.is_answer and len(s.answered) > 1}
     if any(f.enum and f.result not in model.structs for f in functions):
         yield "use crate::answers;"
-    for module, names in (("answers", several), ("refusal", {"Refusal", "RefusalAt"}), ("shapes", set(model.structs))):
+    for module, names in (("answers", several), ("refusal", set(ERRORS)), ("shapes", set(model.structs))):
         named = sorted(words & names)
         if named:
             yield f"use crate::{module}::{named[0] if len(named) == 1 else '{' + ', '.join(named) + '}'};"

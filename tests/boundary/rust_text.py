@@ -39,17 +39,23 @@ def value_type(struct):
 def converted(t, kind):
     """What an answer is in Rust: the value, perhaps none, perhaps refused."""
     t = f"Option<{t}>" if kind.none else t
-    return f"Result<{t}, {'RefusalAt' if kind.placed else 'Refusal'}>" if kind.refused else t
+    return f"Result<{t}, {kind.error}>" if kind.error else t
 
 
 def conversion(kind):
     names = {
-        (True, False, False): "option",
-        (False, True, False): "result",
-        (True, True, False): "result_of_option",
-        (False, True, True): "result_at",
+        (True, ""): "option",
+        (False, "Refusal"): "result",
+        (True, "Refusal"): "result_of_option",
+        (False, "RefusalAt"): "result_at",
+        (False, "RefusalIn"): "result_in",
     }
-    return names[kind.none, kind.refused, kind.placed]
+    return names[kind.none, kind.error]
+
+
+def takes_places(kind):
+    """Whether the conversion is handed the refusals that tell a place. With a list it is not: list 0 says that none is told."""
+    return kind.error == "RefusalAt"
 
 
 def signature(opening, parameters, closing, indent=0):

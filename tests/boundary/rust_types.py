@@ -4,7 +4,8 @@ import re
 import textwrap
 
 from limits import LIMITS
-from rust_text import WIDTH, answer_name, comment, conversion, converted, origin, signature, value_type
+from model import ERRORS
+from rust_text import WIDTH, answer_name, comment, conversion, converted, origin, signature, takes_places, value_type
 
 
 def struct(name, fields, above):
@@ -91,10 +92,11 @@ def methods(s, model):
     yield f"impl {s.name} {{"
     for i, (name, kind) in enumerate(sorted(kinds.items())):
         yield from [""] * (i > 0)
-        taken, handed = (["placed: &[Refusal]"], ["self.place", "placed"]) if kind.placed else ([], [])
+        taken, placed = (["placed: &[Refusal]"], ["placed"]) if takes_places(kind) else ([], [])
+        told = [f"self.{field}" for field in kind.told]
         yield "    #[inline]"
         yield f"    pub fn {name}({', '.join(['self', *taken])}) -> {converted(value_type(s), kind)} {{"
-        yield from signature(name, ["self.status", value, *handed], "", 8)
+        yield from signature(name, ["self.status", value, *told, *placed], "", 8)
         yield "    }"
     yield "}"
 
@@ -125,6 +127,16 @@ pub(crate) fn result_at<T>(
 ) -> Result<T, RefusalAt> {
     result(status, value)
         .map_err(|refusal| RefusalAt { refusal, place: placed.contains(&refusal).then_some(place) })
+}
+
+#[inline]
+pub(crate) fn result_in<T>(
+    status: u32,
+    value: T,
+    list: usize,
+    place: usize,
+) -> Result<T, RefusalIn> {
+    result(status, value).map_err(|refusal| refusal.in_list(list, place))
 }"""
 
 
@@ -133,7 +145,7 @@ def answers_file(model):
     yield "//!"
     yield from origin("crates/c_answers/src/lib.rt and crates/c_hatch/src/answer.rt")
     yield ""
-    yield "use crate::refusal::{Refusal, RefusalAt};"
+    yield f"use crate::refusal::{{{', '.join(ERRORS)}}};"
     answers = [s for s in model.structs.values() if s.is_answer]
     shapes = sorted({f.type.name for s in answers for f in s.fields} & set(model.structs))
     yield f"use crate::shapes::{{{', '.join(shapes)}}};"
@@ -181,6 +193,13 @@ impl Refusal {
     #[inline]
     pub const fn at(self, place: usize) -> RefusalAt {
         RefusalAt { refusal: self, place: Some(place) }
+    }
+
+    /// The refusal at a byte of a list, to compare an error with:
+    /// `refused == Refusal::VERSION.in_list(2, 3)`. Of the merged list both are 0.
+    #[inline]
+    pub const fn in_list(self, list: usize, place: usize) -> RefusalIn {
+        RefusalIn { refusal: self, list, place }
     }
 
     #[inline]
@@ -265,7 +284,57 @@ impl fmt::Debug for RefusalAt {
     }
 }
 
-impl Error for RefusalAt {}"""
+impl Error for RefusalAt {}
+
+/// A refusal of a merge, with the list that is refused and the byte of it.
+#[derive(Clone, Copy, PartialEq, Eq, Hash)]
+pub struct RefusalIn {
+    /// Why the call was refused.
+    pub refusal: Refusal,
+    /// The list: 1 or 2 of the two that are read, and 0 for the merged list.
+    pub list: usize,
+    /// The byte of list 1 or 2, from 0 on. With list 0 it is 0 and tells nothing.
+    pub place: usize,
+}
+
+impl RefusalIn {
+    /// The number of the refusal.
+    #[inline]
+    pub const fn number(self) -> u32 {
+        self.refusal.number()
+    }
+}
+
+/// For `?` in a function whose errors are refusals alone: list and place are dropped.
+impl From<RefusalIn> for Refusal {
+    fn from(told: RefusalIn) -> Self {
+        told.refusal
+    }
+}
+
+impl fmt::Display for RefusalIn {
+    fn fmt(&self, f: &mut fmt::Formatter<'_>) -> fmt::Result {
+        match self.list {
+            0 => write!(f, "{} (the merged list)", self.refusal),
+            list => write!(f, "{} (list {list}, byte {})", self.refusal, self.place),
+        }
+    }
+}
+
+/// Name, number, list, place and text, for the message of a panic.
+impl fmt::Debug for RefusalIn {
+    fn fmt(&self, f: &mut fmt::Formatter<'_>) -> fmt::Result {
+        let (name, text) = self.refusal.name_and_text();
+        match self.list {
+            0 => write!(f, "{name} ({}) of the merged list: {text}", self.number()),
+            list => {
+                write!(f, "{name} ({}) in list {list} at {}: {text}", self.number(), self.place)
+            }
+        }
+    }
+}
+
+impl Error for RefusalIn {}"""
 
 
 def refusal_arm(r):

@@ -60,8 +60,17 @@ static void place(struct caller *caller, size_t i, size_t length) {
 static void make_read(struct caller *caller, size_t i, bool large) {
     unsigned char *copy = caller->copies[i];
     size_t length;
+    bool second = i > 0 && caller->routine->lists[i - 1] == 'B';
+    const unsigned char *first = second ? caller->copies[i - 1] : NULL;
+    size_t first_length = second ? caller->in.lists[i - 1].length : 0;
+    /* One time in eight the second of two lists of bytes is the first, in the same memory. */
+    if (second && random_below(&caller->random, 8) == 0) {
+        caller->in.lists[i] = caller->in.lists[i - 1];
+        memcpy(copy, first, first_length);
+        return;
+    }
     if (caller->routine->lists[i] == 'B') {
-        length = hostile_bytes(&caller->random, copy, large);
+        length = hostile_bytes(&caller->random, copy, large, first, first_length);
     } else {
         float floats[FENCED / sizeof(float)];
         /* Records for the routines that write hatch lists, any floats for the others. */
@@ -106,7 +115,7 @@ static void look(const struct caller *caller, const struct answer *out) {
     const struct routine *routine = caller->routine;
     hold(caller, out->status <= last_refusal || out->status == BGZ_NONE, "a status that the header does not have");
     hold(caller, out->status == BGZ_ANSWERED || is_empty(routine, out), "a refusal with an answer");
-    hold(caller, out->place == 0 || tells_place(routine, out->status), "a place that is not told");
+    hold(caller, tells_rightly(routine, out), "a list or a place told wrongly");
     for (size_t i = 0; routine->lists[i] != '\0'; i++) {
         const struct list *list = &caller->in.lists[i];
         size_t bytes = bytes_of(caller, i);
@@ -144,6 +153,7 @@ static void mix_list(struct caller *caller, size_t i) {
 
 static void digest(struct caller *caller, const struct answer *out) {
     mix(&caller->digest, out->status);
+    mix(&caller->digest, out->list);
     mix(&caller->digest, out->place);
     for (size_t i = 0; caller->routine->gives[i] != '\0'; i++) {
         if (caller->routine->gives[i] == 'f')

@@ -120,19 +120,37 @@ size_t hostile_records(struct random *random, float *floats, bool large) {
     return length;
 }
 
-size_t hostile_bytes(struct random *random, uint8_t *bytes, bool large) {
-    size_t records = large ? 2000 : random_below(random, 6);
-    size_t length = 7 + 32 * records;
+/* The bytes before the records of a hatch list, and those of a record. */
+enum { HEADER = 7, RECORD = 32 };
+
+/* Makes a record, which stands behind so many of its list. `other` is another list, which has so many. */
+static void hostile_record(struct random *random, uint8_t *record, size_t before, const uint8_t *other, size_t others) {
+    uint64_t choice = random_below(random, 8);
+    if (choice == 0 && before > 0) {
+        memcpy(record, record - RECORD * (1 + random_below(random, before)), RECORD);
+    } else if (choice < 4 && others > 0) {
+        memcpy(record, other + HEADER + RECORD * random_below(random, others), RECORD);
+    } else {
+        float floats[8];
+        hostile_floats(random, floats, 8);
+        memcpy(record, floats, sizeof floats);
+    }
+    if (random_below(random, 8) == 0)
+        record[random_below(random, RECORD)] ^= (uint8_t)(1 << random_below(random, 8));
+}
+
+size_t hostile_bytes(struct random *random, uint8_t *bytes, bool large, const uint8_t *other, size_t other_length) {
+    size_t records = large ? 1000 * (1 + random_below(random, 2)) : random_below(random, 6);
+    size_t length = HEADER + RECORD * records;
+    size_t others = other_length < HEADER ? 0 : (other_length - HEADER) / RECORD;
     memcpy(bytes, "HSL\1\0", 5);
     bytes[5] = (uint8_t)records;
     bytes[6] = (uint8_t)(records >> 8);
-    for (size_t i = 7; i < length; i += 32) {
-        float record[8];
-        hostile_floats(random, record, 8);
-        memcpy(bytes + i, record, sizeof record);
-    }
+    for (size_t i = 0; i < records; i++)
+        hostile_record(random, bytes + HEADER + RECORD * i, i, other, others);
     uint64_t bits = random_bits(random);
-    switch (random_below(random, 6)) {
+    /* Long lists are few, and two that are merged must both be good: they are damaged half as often. */
+    switch (random_below(random, large ? 12 : 6)) {
     case 0: bytes[bits % length] = (uint8_t)(bits >> 32); break;
     /* A byte of the header, on which most refusals depend. */
     case 1: bytes[bits % 7] = (uint8_t)(bits >> 32); break;

@@ -27,9 +27,10 @@ size_t hostile_length(struct random *random, size_t most);
 size_t hostile_records(struct random *random, float *floats, bool large);
 
 /*
- * Makes the bytes of a hatch list of few records, or if `large` of 2,000, good or damaged. Returns how many bytes they are,
- * at most 64,008.
+ * Makes the bytes of a hatch list of few records, or if `large` of 1,000 or 2,000, good or damaged. Returns how many bytes
+ * they are, at most 64,008. Some records are repeats, of this list or of another, `other`, which has so many bytes; some
+ * differ from one in a bit.
  */
-size_t hostile_bytes(struct random *random, uint8_t *bytes, bool large);
+size_t hostile_bytes(struct random *random, uint8_t *bytes, bool large, const uint8_t *other, size_t other_length);
 
 #endif

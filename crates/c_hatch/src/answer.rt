@@ -1,7 +1,8 @@
-// What a read of a hatch list answers, as C sees it: a status beside the value, as in c_answers.
+// What a read or a merge of hatch lists answers, as C sees it: a status beside the value, as in c_answers.
 ghost use Rattle.std.specs.Prelude.{◌≡◌};
 
 use c_answers::ANSWERED;
+use hatch_merge::RefusalIn;
 use hatch_read::Read;
 use types::RefusalAt;
 
@@ -37,6 +38,42 @@ impl From<Result<Read, RefusalAt>> for ReadAnswer {
                 version: 0,
                 count: 0,
                 place: at.place,
+            },
+        }
+    }
+}
+
+// The length of a merged hatch list.
+#[repr(C)]
+#[derive(Clone, Copy, Debug, PartialEq, Eq)]
+pub struct MergeAnswer {
+    pub status: u32,
+    // The number of bytes.
+    pub count: usize,
+    // The list of a refusal, 1 or 2, and else 0.
+    pub list: usize,
+    // The byte of a refusal, and else 0.
+    pub place: usize,
+}
+
+impl From<Result<usize, RefusalIn>> for MergeAnswer {
+    ghost use Rattle.c_hatch.specs.Answer.{merge_answer_of};
+
+    ghost from_gives = { λ answer told. told ≡ merge_answer_of answer };
+
+    fn from(answer: Result<usize, RefusalIn>) -> MergeAnswer {
+        match answer {
+            Ok(count) => MergeAnswer {
+                status: ANSWERED,
+                count,
+                list: 0,
+                place: 0,
+            },
+            Err(told) => MergeAnswer {
+                status: told.at.refusal.number(),
+                count: 0,
+                list: told.list.number(),
+                place: told.at.place,
             },
         }
     }

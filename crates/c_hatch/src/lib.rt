@@ -1,4 +1,4 @@
-// Hatch lists, read, written and reported on. The bytes of a hatch list are "HSL", a 16-bit version, which is 1, a 16-bit count n of at most
+// Hatch lists, read, written, merged and reported on. The bytes of a hatch list are "HSL", a 16-bit version, which is 1, a 16-bit count n of at most
 // 2,000, and n records of eight floats: box (min_x, min_y, max_x, max_y), origin (x, y), direction (x, y). Little-endian;
 // 7 + 32 n bytes in all. Records are read and written as floats, or as patterns, the bits of the floats, in which a NaN keeps its own.
 #![tactic(auto)]
@@ -15,14 +15,16 @@ ghost use Rattle.hatch_encode.specs.Encode.{bits_of, encode};
 ghost use Rattle.hatch_write.specs.Write.{write_of};
 ghost use Rattle.hatch_write.specs.Saved.{ReadBack, Rewritten};
 ghost use Rattle.bits.specs.Patterns.{AnyBits, OneNan};
+ghost use Rattle.hatch_merge.specs.Merge.{merge_of, merged_file};
+ghost use Rattle.hatch_merge.specs.Promise.{MergesRecords, EmptySecond};
 ghost use Rattle.report.specs.Report.{report_of};
 ghost use Rattle.report.specs.Prefix.{ReportsOnFile};
 ghost use Rattle.report.specs.declared.TheConstants.{REPORT_MAX};
 ghost use Rattle.c_answers.specs.Answers.{count_answer_of};
 ghost use Rattle.c_answers.specs.Told.{Tells};
-ghost use Rattle.c_hatch.specs.Answer.{read_answer_of};
+ghost use Rattle.c_hatch.specs.Answer.{read_answer_of, merge_answer_of};
 
-use crate::answer::ReadAnswer;
+use crate::answer::{MergeAnswer, ReadAnswer};
 use c_answers::CountAnswer;
 
 // What the header has as numbers: `HATCH_BYTES_MAX`, one more, which decide a report, and `HATCH_REPORT_MAX`.
@@ -105,6 +107,27 @@ pub extern "C" fn bgz_hatch_write_floats(floats: &[f32], out: &mut [u8]) -> Coun
     ensures rewrites { Tells count_answer_of result (λ r. Rewritten float_of OneNan floats.now r out.old out.new) }
 {
     CountAnswer::from(hatch_write::write_floats(floats, out))
+}
+
+// Two hatch lists merged into one of version 1: the records of `first` in its order, with its repeats, and then those of `second` in
+// its order that are neither in `first` nor earlier in `second`. Two records are the same if all their bits are: 0 is not -0, and two
+// NaNs are the same only if their bits are. `hatch::read_patterns` reads the merged list as these records. If `second` has no records,
+// the merged list is `first`, byte for byte. A call takes some 20,300 bytes of the stack.
+// Writes the 7 + 32 * n bytes of the n records to the start of `out` and answers how many bytes that is. The bytes of `first` and of
+// `second` together, less 7, are always room enough, and so are `HATCH_BYTES_MAX`.
+// Refused: `first`, then `second`, as `hatch::read_patterns` refuses them, but for `ROOM`; `COUNT` if n is above 2,000; `ROOM` if
+// `out` is shorter than 7 + 32 * n.
+// Place: `list` is 1 with a refusal of `first` and 2 with one of `second`; `place` is the byte that `hatch::read_patterns` tells with
+// `MARK`, `VERSION`, `COUNT` or `LENGTH`. Both are 0 if n is above 2,000 or `out` is too short.
+// Example: "HSL\1\0\0\0", "HSL\1\0\0\0", [9; 8] gives 7 and leaves [72, 83, 76, 1, 0, 0, 0, 9].
+#[unsafe(no_mangle)]
+pub extern "C" fn bgz_hatch_merge(first: &[u8], second: &[u8], out: &mut [u8]) -> MergeAnswer
+    ensures answers { result ≡ merge_answer_of (merge_of first.now second.now out.old) }
+    ensures leaves { out.new ≡ leaves (merge_of first.now second.now out.old) (merged_file first.now second.now) out.old }
+    ensures merges { Tells merge_answer_of result (λ r. MergesRecords first.now second.now r out.new) }
+    ensures empty_second { Tells merge_answer_of result (λ r. EmptySecond first.now second.now r out.old out.new) }
+{
+    MergeAnswer::from(hatch_merge::merge(first, second, out))
 }
 
 // The report on a hatch list, as text in ASCII. The first line is "HSL", version and count. Then each record has a line of its own:

@@ -1,5 +1,5 @@
-//! Clips a hatch list line by line, and one of its faces in one call, and makes the bytes to save with a line corrected.
-//! Then lists the pixels of pen strokes and the tiles of a box, and shows two refusals.
+//! Clips a hatch list line by line, and one of its faces in one call, makes the bytes to save with a line corrected, and
+//! merges both lists. Then lists the pixels of pen strokes and the tiles of a box, and shows two refusals.
 //!
 //! ```text
 //! ./install PREFIX
@@ -107,6 +107,13 @@ fn print_saved(bytes: &[u8]) -> Result<(), RefusalAt> {
     let size = hatch::write_patterns(&patterns[..RECORD * count], &mut saved)?;
     let changed = saved[..size].iter().zip(bytes).filter(|(new, old)| new != old).count();
     println!("to save: {size} bytes, {changed} changed");
+
+    // Another draftsman's list is still as it was read: the merged list has all its lines, and the corrected one.
+    let mut merged = vec![0; HATCH_BYTES_MAX];
+    match hatch::merge(bytes, &saved[..size], &mut merged) {
+        Ok(size) => println!("merged: {size} bytes"),
+        Err(refused) => println!("merged: {refused}"),
+    }
     Ok(())
 }
 
