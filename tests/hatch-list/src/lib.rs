@@ -1,5 +1,7 @@
-//! The hatch list of docs/FORMAT.md, read and written plainly in Rust, with nothing of the library in it. The library's reader and writer are
-//! compared with it, and timed against it.
+//! The hatch list of docs/FORMAT.md, read, written and merged plainly in Rust, with nothing of the library in it. The library's reader, writer and
+//! merge are compared with it, and timed against it.
+
+use std::collections::HashSet;
 
 pub struct Records<'a> {
     pub version: usize,
@@ -12,6 +14,12 @@ pub struct Records<'a> {
 pub struct Refused {
     pub number: u32,
     pub place: usize,
+}
+
+/// A refusal of a merge: told of list 1 or 2 of the two that are read, or with list 0 and place 0 of the merged list.
+pub struct RefusedIn {
+    pub list: usize,
+    pub refused: Refused,
 }
 
 /// The records of a file, for a list with room for so many floats.
@@ -62,6 +70,34 @@ pub fn write(patterns: &[u32], out: &mut [u8]) -> Result<usize, Refused> {
         *bytes = pattern.to_le_bytes();
     }
     Ok(size)
+}
+
+/// The bytes of two hatch lists merged, in a list of their own: the records of the first, then those of the second that are neither in the first nor
+/// earlier in the second. Records are the same if their bytes are.
+pub fn merged(first: &[u8], second: &[u8]) -> Result<Vec<u8>, RefusedIn> {
+    let (kept, more) = (records(1, first)?, records(2, second)?);
+    let mut seen = HashSet::with_capacity(kept.len() + more.len());
+    seen.extend(kept);
+    let mut file = Vec::with_capacity(first.len() + second.len());
+    file.extend(first);
+    for record in more {
+        if seen.insert(record) {
+            file.extend(record);
+        }
+    }
+    let count = (file.len() - 7) / 32;
+    if count > 2000 {
+        return Err(RefusedIn { list: 0, refused: Refused { number: 12, place: 0 } });
+    }
+    file[5..7].copy_from_slice(&(count as u16).to_le_bytes());
+    Ok(file)
+}
+
+/// The records of list 1 or 2, 32 bytes each.
+fn records(list: usize, bytes: &[u8]) -> Result<&[[u8; 32]], RefusedIn> {
+    // A file has fewer floats than bytes, so that it is not refused for room.
+    read(bytes, bytes.len()).map_err(|refused| RefusedIn { list, refused })?;
+    Ok(bytes[7..].as_chunks().0)
 }
 
 /// The records, if they are not too many.

@@ -1,7 +1,7 @@
 //! An answer, the library's or the Rust's. Answers compare equal if their numbers do, with zeros of either sign equal, and all NaNs equal.
 
-/// A refusal; its place is 0 where it tells none.
-pub use hatch_list::Refused;
+/// A refusal; its place is 0 where it tells none. One of a merge tells a list too.
+pub use hatch_list::{Refused, RefusedIn};
 
 /// The most numbers that an answer has: the corners of a turned box of space.
 pub const MOST_VALUES: usize = 24;
@@ -15,6 +15,8 @@ pub struct Answer {
     pub status: u32,
     /// The place, if a refusal tells one, and else 0.
     pub place: u64,
+    /// The list, 1 or 2, if a refusal tells one, and else 0.
+    pub told_list: u64,
     count: usize,
     /// Floats by their bits, whole numbers as they are, negative ones in two's complement.
     values: [u64; MOST_VALUES],
@@ -142,5 +144,12 @@ impl<T: Into<Answer>> From<Result<T, Refused>> for Answer {
     fn from(answer: Result<T, Refused>) -> Self {
         let refused = |r: Refused| Answer { place: r.place as u64, ..Answer::refused(r.number) };
         answer.map_or_else(refused, T::into)
+    }
+}
+
+impl<T: Into<Answer>> From<Result<T, RefusedIn>> for Answer {
+    fn from(answer: Result<T, RefusedIn>) -> Self {
+        let told_list = answer.as_ref().err().map_or(0, |told| told.list as u64);
+        Answer { told_list, ..answer.map_err(|told| told.refused).into() }
     }
 }

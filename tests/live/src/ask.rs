@@ -5,13 +5,13 @@ use std::ffi::{CStr, CString, c_char, c_void};
 use std::{ptr, slice};
 
 /// The arguments of a request: its floats in their order, its whole numbers in theirs, rooms among them, the bits of floats of a list, and its
-/// bytes.
+/// lists of bytes.
 #[derive(Clone, Debug, Default)]
 pub struct Args {
     pub floats: Vec<f32>,
     pub wholes: Vec<u64>,
     pub patterns: Vec<u32>,
-    pub bytes: Vec<u8>,
+    pub bytes: [Vec<u8>; MOST_BYTE_LISTS],
 }
 
 impl Args {
@@ -24,14 +24,15 @@ impl Args {
     fn input(&self) -> c::Input {
         let mut wholes = [0; MOST_WHOLES];
         wholes[..self.wholes.len()].copy_from_slice(&self.wholes);
+        let list =
+            |bytes: &Vec<u8>| c::List { start: bytes.as_ptr().cast_mut(), length: bytes.len() };
         c::Input {
             floats: self.floats.as_ptr().cast_mut(),
             float_count: self.floats.len(),
             wholes,
             patterns: self.patterns.as_ptr().cast_mut(),
             pattern_count: self.patterns.len(),
-            bytes: self.bytes.as_ptr().cast_mut(),
-            byte_count: self.bytes.len(),
+            bytes: self.bytes.each_ref().map(list),
         }
     }
 
@@ -62,10 +63,12 @@ pub struct Routine {
     gives: *const c_char,
     fields: *const c_char,
     places: u32,
+    tells_list: bool,
 }
 
-/// The most whole numbers that a request has.
+/// The most whole numbers that a request has, and the most lists of bytes.
 const MOST_WHOLES: usize = 8;
+const MOST_BYTE_LISTS: usize = 2;
 
 /// What tests/ask/ask.h declares.
 mod c {
@@ -81,8 +84,16 @@ mod c {
     #[repr(C)]
     pub struct Answer {
         pub status: u32,
+        pub list: u64,
         pub place: u64,
         pub values: [Value; MOST_VALUES],
+    }
+
+    #[repr(C)]
+    #[derive(Clone, Copy)]
+    pub struct List {
+        pub start: *mut u8,
+        pub length: usize,
     }
 
     #[repr(C)]
@@ -92,8 +103,7 @@ mod c {
         pub wholes: [u64; MOST_WHOLES],
         pub patterns: *mut u32,
         pub pattern_count: usize,
-        pub bytes: *mut u8,
-        pub byte_count: usize,
+        pub bytes: [List; MOST_BYTE_LISTS],
     }
 
     #[repr(C)]
@@ -153,7 +163,7 @@ pub fn read(line: &str) -> Option<(&'static Routine, Args)> {
             floats: slice::from_raw_parts(input.floats, input.float_count).to_vec(),
             wholes: input.wholes.to_vec(),
             patterns: slice::from_raw_parts(input.patterns, input.pattern_count).to_vec(),
-            bytes: slice::from_raw_parts(input.bytes, input.byte_count).to_vec(),
+            bytes: input.bytes.map(|list| slice::from_raw_parts(list.start, list.length).to_vec()),
         });
         c::free_request(&mut request);
         Some((request.routine.as_ref()?, args?))
@@ -202,6 +212,7 @@ impl Routine {
         let reply = unsafe { c::ask(self, &args.input()) };
         let told = &reply.answer;
         let mut answer = Answer::refused(told.status);
+        answer.told_list = told.list;
         answer.place = told.place;
         answer.damaged = reply.damaged;
         if !reply.damaged && told.status == 0 {
@@ -226,14 +237,14 @@ impl Routine {
 
     /// An answer of this routine as a line.
     pub fn show(&self, answer: &Answer) -> String {
-        let (status, place, damaged) = (answer.status, answer.place, answer.damaged);
+        let Answer { status, told_list, place, damaged, .. } = *answer;
         let values = answer.values().map(|whole| c::Value { whole });
         let bytes: Vec<u8> = answer.list.iter().map(|entry| *entry as u8).collect();
         let list = match self.list() {
             Some(b'b') => bytes.as_ptr().cast(),
             _ => answer.list.as_ptr().cast::<c_void>(),
         };
-        let answer = c::Answer { status, place, values };
+        let answer = c::Answer { status, list: told_list, place, values };
         let reply = c::Reply { answer, list: list.cast_mut(), damaged };
         owned(unsafe { c::reply_text(self, ptr::from_ref(&reply), false) })
     }

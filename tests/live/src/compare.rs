@@ -1,11 +1,12 @@
 //! The run of the gate: the figures, random inputs for each routine, the places of refusals, strokes along margins, every exact root, hatch lists
-//! written and read, reports on them, and the tiles by brute force.
+//! written and read, merged, and reported on, and the tiles by brute force.
 
 use crate::cover;
 use crate::figures;
 use crate::hatch;
 use crate::inputs::Inputs;
 use crate::margins;
+use crate::merges;
 use crate::options::Options;
 use crate::pairs::pairs;
 use crate::places;
@@ -33,6 +34,7 @@ pub fn run(options: &Options) -> Result<(), String> {
         margins::run(options.seed, count / 10)?;
         squares::run()?;
         saved::run(options.seed, count)?;
+        merges::run(options.seed)?;
         hatch::run(options.seed, count)?;
         cover::run(options)?;
     }

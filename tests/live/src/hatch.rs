@@ -13,7 +13,7 @@ pub fn run(seed: u64, count: u64) -> Result<(), String> {
     let mut random = Random::new(seed, "hatch.report");
     for _ in 0..count {
         let page = if random.one_in(4) { random.below(60) as usize } else { 300 };
-        compare(&files.next().bytes, page)?;
+        compare(&files.next().bytes[0], page)?;
     }
     println!("hatch.report {count} files, no difference");
     Ok(())

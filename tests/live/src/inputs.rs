@@ -5,12 +5,14 @@ mod file;
 mod floats;
 mod kinds;
 mod make;
+mod merge;
 mod source;
 mod touch;
 mod wholes;
 
 pub use file::{damage, hatch_list};
 pub use kinds::{Kind, axes, mirror};
+pub use merge::{Record, file_of, others};
 
 use crate::ask::Args;
 use crate::judge::Row;
@@ -66,7 +68,7 @@ impl Inputs {
         self.args.floats.clear();
         self.args.wholes.clear();
         self.args.patterns.clear();
-        self.args.bytes.clear();
+        self.args.bytes.iter_mut().for_each(Vec::clear);
         let source = Source::random(&mut self.random);
         for kind in self.row.shape {
             make::make(*kind, source, &mut self.random, &mut self.args);

@@ -10,6 +10,7 @@ mod hatch;
 mod inputs;
 mod judge;
 mod margins;
+mod merges;
 mod options;
 mod pairs;
 mod places;

@@ -32,7 +32,7 @@ pub fn run() -> Result<(), String> {
     let files =
         EXAMPLES.iter().map(|floats| files(&hatch_list(floats))).sum::<Result<usize, _>>()?;
     println!(
-        "hatch.read, hatch.read_floats, hatch.report {files} changed examples each, no difference"
+        "hatch.read, hatch.read_floats, hatch.report {files} changed examples each, hatch.merge in each list, no difference"
     );
     Ok(())
 }
@@ -84,9 +84,11 @@ fn inks() -> Result<usize, String> {
     Ok(count)
 }
 
-/// Every prefix of a file and every change of one of its bytes, with room for all of its floats, for all but one, and for none.
+/// Every prefix of a file and every change of one of its bytes, with room for all of its floats, for all but one, and for none; and merged with the
+/// file, as the first list and as the second, with room for the merge of three records, of two, and for none.
 fn files(file: &[u8]) -> Result<usize, String> {
     let readers = [named("hatch.read")?, named("hatch.read_floats")?];
+    let merge = named("hatch.merge")?;
     let prefixes = (0..=file.len()).map(|length| file[..length].to_vec());
     let changes = (0..file.len()).flat_map(|at| {
         let others = (0..=255).filter(move |byte| *byte != file[at]);
@@ -95,10 +97,16 @@ fn files(file: &[u8]) -> Result<usize, String> {
     let mut count = 0;
     for bytes in prefixes.chain(changes) {
         hatch::compare(&bytes, 300)?;
-        let mut args = Args { bytes, ..Args::default() };
+        let mut args = Args { bytes: [bytes, file.to_vec()], ..Args::default() };
         for room in [16, 15, 0] {
             args.wholes = vec![room];
             readers.iter().try_for_each(|reader| reader.compare(&args))?;
+        }
+        for room in [103, 71, 0] {
+            args.wholes = vec![room];
+            merge.compare(&args)?;
+            args.bytes.reverse();
+            merge.compare(&args)?;
         }
         count += 1;
     }

@@ -2,7 +2,7 @@
 //! The figures with known results come first.
 
 use crate::figures;
-use crate::inputs::Inputs;
+use crate::inputs::{Inputs, Kind};
 use crate::options::Options;
 use crate::pairs::{Pair, pairs};
 use std::collections::HashSet;
@@ -29,8 +29,9 @@ fn print(pair: &Pair, seed: u64, count: usize) -> Result<(), String> {
         let args = inputs.next_special(i);
         let request = pair.routine.request(args);
         let row = format!("{request} = {}", pair.rust_line(args)?);
-        // Rows with long lists are left out: a short list shows the same.
-        let fits = row.len() < 300 || !pair.routine.has_list();
+        // Rows with long lists are left out: a short list shows the same. A merge has three lists.
+        let longest = if pair.row.shape == [Kind::Files] { 600 } else { 300 };
+        let fits = row.len() < longest || !pair.routine.has_list();
         if fits && printed.insert(request) {
             println!("{row}");
         }

@@ -4,6 +4,7 @@ mod clip;
 mod face;
 mod file;
 mod ink;
+mod merge;
 mod nearest;
 mod root;
 mod space;
@@ -28,6 +29,7 @@ pub fn compared() -> Vec<Case> {
         nearest::cases(),
         root::cases(),
         file::cases(),
+        merge::cases(),
     ]
     .into_iter()
     .flatten()
@@ -42,7 +44,10 @@ pub struct Sized {
 }
 
 pub fn sized() -> Vec<Sized> {
-    [face::sized(), strokes::sized(), tiles::sized(), file::sized()].into_iter().flatten().collect()
+    [face::sized(), strokes::sized(), tiles::sized(), file::sized(), merge::sized()]
+        .into_iter()
+        .flatten()
+        .collect()
 }
 
 impl Sized {

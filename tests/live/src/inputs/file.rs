@@ -16,7 +16,7 @@ pub fn make(source: Source, random: &mut Random, args: &mut Args) {
     damage(&mut file, random);
     let room = 8 * count as u64 + random.below(3);
     args.wholes.push(room.saturating_sub(random.below(2)));
-    args.bytes = file;
+    args.bytes[0] = file;
 }
 
 /// Changes a byte one time in three, and makes the file longer or shorter one time in three.
@@ -47,14 +47,20 @@ pub fn make_records(source: Source, random: &mut Random, args: &mut Args) {
 pub fn make_bits(source: Source, random: &mut Random, args: &mut Args) {
     let mut floats = Vec::new();
     for _ in 0..entries(random) {
-        floats.push(source.float(&floats, random));
-        args.patterns.push(match random.below(4) {
-            0 => random.bits() as u32,
-            1 => random.pick(&NANS) | (random.below(2) as u32) << 31,
-            _ => floats[floats.len() - 1].to_bits(),
-        });
+        args.patterns.push(pattern(source, &mut floats, random));
     }
     args.wholes.push(room(args.patterns.len(), random));
+}
+
+/// The bits of the next float after those already made; or random ones, or those of a NaN.
+pub fn pattern(source: Source, made: &mut Vec<f32>, random: &mut Random) -> u32 {
+    let float = source.float(made, random);
+    made.push(float);
+    match random.below(4) {
+        0 => random.bits() as u32,
+        1 => random.pick(&NANS) | (random.below(2) as u32) << 31,
+        _ => float.to_bits(),
+    }
 }
 
 /// The least and the greatest pattern of the signalling NaNs and of the quiet ones, and one between of each, without the sign.
@@ -70,7 +76,7 @@ fn entries(random: &mut Random) -> usize {
 }
 
 /// The room for the file of so many entries: most times enough or more, sometimes a byte or a record too few.
-fn room(entries: usize, random: &mut Random) -> u64 {
+pub fn room(entries: usize, random: &mut Random) -> u64 {
     let size = 7 + 32 * (entries as u64 / 8);
     match random.below(8) {
         0 => size - 1,

@@ -42,6 +42,8 @@ pub enum Kind {
     Tiles,
     /// Room, and the bytes of a hatch list.
     File,
+    /// Room, and the bytes of two hatch lists.
+    Files,
     /// Room, and the floats of records.
     Records,
     /// Room, and the bits of the floats of records.
@@ -67,6 +69,7 @@ impl Kind {
             Kind::Ends => "uuffff",
             Kind::Tiles => "ffffuuur",
             Kind::File => "rB",
+            Kind::Files => "rBB",
             Kind::Bits => "rP",
         }
     }

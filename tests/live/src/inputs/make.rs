@@ -3,6 +3,7 @@
 use super::Kind;
 use super::edges;
 use super::file;
+use super::merge;
 use super::source::Source;
 use super::wholes;
 use crate::ask::Args;
@@ -12,6 +13,7 @@ use crate::random::Random;
 pub fn make(kind: Kind, source: Source, random: &mut Random, args: &mut Args) {
     match kind {
         Kind::File => return file::make(source, random, args),
+        Kind::Files => return merge::make(source, random, args),
         Kind::Records => return file::make_records(source, random, args),
         Kind::Bits => return file::make_bits(source, random, args),
         _ => {}

@@ -260,6 +260,12 @@ pub fn written(patterns: &[u32]) -> Option<Vec<u8>> {
     hatch_list::written(patterns).ok()
 }
 
+/// The Rust has no merge of hatch lists: that of tests/hatch-list, by a HashSet of the records, into a new Vec.
+#[inline(never)]
+pub fn merged(first: &[u8], second: &[u8]) -> Result<Vec<u8>, hatch_list::RefusedIn> {
+    hatch_list::merged(first, second)
+}
+
 fn copied(entries: impl Iterator<Item = usize>, count: usize, list: &mut [u32]) -> CountAnswer {
     for (place, entry) in list[..count].iter_mut().zip(entries) {
         *place = entry as u32;

@@ -38,7 +38,7 @@ fn file(records: usize) -> Case {
 }
 
 /// The bits of the floats of records: slanting lines about a face, rising and falling.
-fn patterns(records: usize) -> Vec<u32> {
+pub fn patterns(records: usize) -> Vec<u32> {
     let mut random = Random::new(1, "file");
     let mut patterns = Vec::new();
     for _ in 0..records {
