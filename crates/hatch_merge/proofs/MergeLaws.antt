@@ -64,9 +64,6 @@ listed_file b h is = (accepts_only hsl b refl h is).1
 -- ---- the records of a hatch list
 
 module _ (b : List ℕ) (small : Below 256 b) (n : ℕ) (list : HatchList hsl b n) where
-  abbrev pub records_of : List (List ℕ)
-  records_of = records_in (patterns_of 32 b n)
-
   pub small_records : All Small (records_in (patterns_of 32 b n))
   small_records = records_small (patterns_of 32 b n) (accepted_below hsl rows b 1 n (patterns_of 32 b n) small (decoded_list b n list))
 

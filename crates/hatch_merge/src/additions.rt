@@ -1,5 +1,5 @@
 // The records that the second list adds: those that are neither in the first nor earlier in the second.
-ghost use Rattle.std.specs.Prelude.{◌≡◌, ◌≤◌, length, take};
+ghost use Rattle.std.specs.Prelude.{◌≤◌, length, take};
 ghost use Rattle.hatch_merge.specs.Parts.{Adds};
 
 use crate::both::{BOTH_MAX, Both};

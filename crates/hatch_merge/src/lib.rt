@@ -8,7 +8,7 @@ mod put;
 mod refusal;
 mod repeats;
 
-ghost use Rattle.std.specs.Prelude.{◌≡◌, ◌+◌, ◌≤◌, length};
+ghost use Rattle.std.specs.Prelude.{◌≡◌, ◌≤◌, length};
 ghost use Rattle.lists.specs.Lent.{leaves};
 ghost use Rattle.hatch_format.specs.Format.{hsl, rows, version_one_of, head_of};
 ghost use Rattle.hatch_write.specs.Write.{size_of};
