@@ -48,13 +48,17 @@ pub fn read(bytes: &[u8], room: usize) -> Result<Records<'_>, Refused> {
 
 /// The bytes of the records of these patterns, eight each, in a list of their own. An incomplete last record does not count.
 pub fn written(patterns: &[u32]) -> Result<Vec<u8>, Refused> {
-    let records = counted(patterns)?;
+    Ok(file_of(counted(patterns)?))
+}
+
+/// The bytes of these records, which may be more than a file may have.
+pub fn file_of(records: &[[u32; 8]]) -> Vec<u8> {
     let mut file = Vec::with_capacity(7 + 32 * records.len());
-    file.extend(header(records));
+    file.extend(header(records.len()));
     for pattern in records.as_flattened() {
         file.extend(pattern.to_le_bytes());
     }
-    Ok(file)
+    file
 }
 
 /// Writes them to the start of a list, and tells how many they are.
@@ -65,7 +69,7 @@ pub fn write(patterns: &[u32], out: &mut [u8]) -> Result<usize, Refused> {
     else {
         return Err(Refused { number: 1, place: 0 });
     };
-    start.copy_from_slice(&header(records));
+    start.copy_from_slice(&header(records.len()));
     for (bytes, pattern) in body.as_chunks_mut().0.iter_mut().zip(records.as_flattened()) {
         *bytes = pattern.to_le_bytes();
     }
@@ -85,11 +89,8 @@ pub fn merged(first: &[u8], second: &[u8]) -> Result<Vec<u8>, RefusedIn> {
             file.extend(record);
         }
     }
-    let count = (file.len() - 7) / 32;
-    if count > 2000 {
-        return Err(RefusedIn { list: 0, refused: Refused { number: 12, place: 0 } });
-    }
-    file[5..7].copy_from_slice(&(count as u16).to_le_bytes());
+    let count = few((file.len() - 7) / 32).map_err(|refused| RefusedIn { list: 0, refused })?;
+    file[..7].copy_from_slice(&header(count));
     Ok(file)
 }
 
@@ -103,10 +104,16 @@ fn records(list: usize, bytes: &[u8]) -> Result<&[[u8; 32]], RefusedIn> {
 /// The records, if they are not too many.
 fn counted(patterns: &[u32]) -> Result<&[[u32; 8]], Refused> {
     let (records, _) = patterns.as_chunks();
-    if records.len() > 2000 { Err(Refused { number: 12, place: 0 }) } else { Ok(records) }
+    few(records.len())?;
+    Ok(records)
 }
 
-fn header(records: &[[u32; 8]]) -> [u8; 7] {
-    let [low, high] = (records.len() as u16).to_le_bytes();
+/// So many records, if they are not too many.
+fn few(count: usize) -> Result<usize, Refused> {
+    if count > 2000 { Err(Refused { number: 12, place: 0 }) } else { Ok(count) }
+}
+
+fn header(count: usize) -> [u8; 7] {
+    let [low, high] = (count as u16).to_le_bytes();
     [b'H', b'S', b'L', 1, 0, low, high]
 }

@@ -12,7 +12,7 @@ mod wholes;
 
 pub use file::{damage, hatch_list};
 pub use kinds::{Kind, axes, mirror};
-pub use merge::{Record, file_of, others};
+pub use merge::{Record, others};
 
 use crate::ask::Args;
 use crate::judge::Row;

@@ -3,9 +3,10 @@
 
 use crate::answer::Answer;
 use crate::ask::Args;
-use crate::inputs::{Record, file_of, others};
+use crate::inputs::{Record, others};
 use crate::pairs::{Pair, named};
 use crate::random::Random;
+use hatch_list::file_of;
 use std::collections::BTreeMap;
 
 /// Every kind of answer: 0 or a refusal's number, and the list that it tells.
@@ -180,8 +181,7 @@ impl Merges {
 
     /// The library's answer and the plain merge's, if they are equal.
     fn compare(&mut self, args: &Args) -> Result<Answer, String> {
-        self.pair.compare(args)?;
-        let answer = self.pair.routine.ask(args);
+        let answer = self.pair.answer(args)?;
         *self.kinds.entry((answer.status, answer.told_list)).or_insert(0) += 1;
         Ok(answer)
     }

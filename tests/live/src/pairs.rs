@@ -1,5 +1,6 @@
 //! A routine of the library beside the one that it is compared with.
 
+use crate::answer::Answer;
 use crate::ask::{self, Args, Routine};
 use crate::judge::{self, Row};
 
@@ -32,10 +33,15 @@ pub fn pair(routine: &'static Routine) -> Result<Pair, String> {
 impl Pair {
     /// Nothing if the answers are equal; else the request and both answers.
     pub fn compare(&self, args: &Args) -> Result<(), String> {
+        self.answer(args).map(|_| ())
+    }
+
+    /// The answer of both if they are equal; else the request and both answers.
+    pub fn answer(&self, args: &Args) -> Result<Answer, String> {
         let ours = self.routine.ask(args);
         let rust = self.row.answer(args);
         if rust.as_ref() == Some(&ours) {
-            return Ok(());
+            return Ok(ours);
         }
         let rust = rust.map_or("panicked".to_string(), |answer| self.routine.show(&answer));
         let ours = self.routine.show(&ours);

@@ -4,6 +4,7 @@ use super::file::{damage, pattern, room};
 use super::source::Source;
 use crate::ask::Args;
 use crate::random::Random;
+use hatch_list::file_of;
 
 /// The bits of the floats of a record.
 pub type Record = [u32; 8];
@@ -73,10 +74,4 @@ fn changed(mut record: Record, random: &mut Random) -> Record {
     };
     record[random.below(8) as usize] ^= 1 << bit;
     record
-}
-
-/// The file of these records. There may be more than a file may have.
-pub fn file_of(records: &[Record]) -> Vec<u8> {
-    let head = [0x48, 0x53, 0x4c, 1, 0].into_iter().chain((records.len() as u16).to_le_bytes());
-    head.chain(records.as_flattened().iter().flat_map(|bits| bits.to_le_bytes())).collect()
 }
