@@ -4,6 +4,8 @@ use Rattle.types.specs.declared.shape.Vec2.{Vec2}
 use Rattle.types.specs.declared.shape.Aabb2.{Aabb2}
 use Rattle.slabs.specs.declared.Interval.{Interval}
 use Rattle.slabs.specs.declared.Slab.{Slab}
+use Rattle.slabs.specs.declared.crossing.Crossing.{Crossing}
+use Rattle.slabs.specs.Entry.{with_edge}
 unfoldable pub use Rattle.slabs.specs.Clip.{narrowed_of, narrow_all, ordered_of, clip_over, ahead_of}
 
 -- the box and the line, seen in one dimension
@@ -22,3 +24,10 @@ intersections_against_line_of b p d = clip_over (slabs b p d)
 
 unfoldable pub intersections_against_ray_of : Aabb2 → Vec2 → Vec2 → Interval
 intersections_against_ray_of b p d = ahead_of (intersections_against_line_of b p d)
+
+-- the same intervals, told with the edge by which the line comes in
+abbrev pub crossing_against_line_of : Aabb2 → Vec2 → Vec2 → Crossing
+crossing_against_line_of b p d = with_edge (slabs b p d) (intersections_against_line_of b p d)
+
+abbrev pub crossing_against_ray_of : Aabb2 → Vec2 → Vec2 → Crossing
+crossing_against_ray_of b p d = with_edge (slabs b p d) (intersections_against_ray_of b p d)

@@ -3,11 +3,11 @@
 #![tactic(auto, unfolding(crate::specs::Clip::intersections_against_line_of, crate::specs::Clip::intersections_against_ray_of, crate::specs::Inside::is_include_point_of, slabs::specs::Clip::clip_over, slabs::specs::Clip::narrow_all))]
 
 ghost use Rattle.std.specs.Prelude.{◌≡◌};
-ghost use Rattle.aabb.specs.Clip.{slabs, intersections_against_line_of, intersections_against_ray_of};
-ghost use Rattle.slabs.specs.Promise.{IsLineAnswer, IsRayAnswer};
+ghost use Rattle.aabb.specs.Clip.{slabs, crossing_against_line_of, crossing_against_ray_of};
+ghost use Rattle.slabs.specs.Entry.{IsLineCrossing, IsRayCrossing};
 ghost use Rattle.aabb.specs.Inside.{is_include_point_of, center_of};
 
-use slabs::{Interval, Slab};
+use slabs::{Crossing, Slab};
 use types::{Aabb2, Vec2};
 
 // The box and the line, dimension by dimension.
@@ -30,18 +30,18 @@ pub fn slabs(b: Aabb2, origin: Vec2, direction: Vec2) -> [Slab; 2]
     ]
 }
 
-// The parameters at which the line origin + t * direction enters and leaves the box.
-pub fn intersections_against_line(b: Aabb2, origin: Vec2, direction: Vec2) -> Interval
-    ensures answers { result ≡ intersections_against_line_of b origin direction }
-    ensures means { IsLineAnswer (slabs b origin direction) result }
+// The parameters at which the line origin + t * direction enters and leaves the box, and the edge by which it enters.
+pub fn intersections_against_line(b: Aabb2, origin: Vec2, direction: Vec2) -> Crossing
+    ensures answers { result ≡ crossing_against_line_of b origin direction }
+    ensures means { IsLineCrossing (slabs b origin direction) result }
 {
     slabs::clip(&slabs(b, origin, direction))
 }
 
-// The line's answer where it leaves the box at 0 or later. The entry is not raised to 0.
-pub fn intersections_against_ray(b: Aabb2, origin: Vec2, direction: Vec2) -> Interval
-    ensures answers { result ≡ intersections_against_ray_of b origin direction }
-    ensures means { IsRayAnswer (slabs b origin direction) result }
+// The line's answer where it leaves the box at 0 or later. The entry is not raised to 0, so the edge may lie behind the origin.
+pub fn intersections_against_ray(b: Aabb2, origin: Vec2, direction: Vec2) -> Crossing
+    ensures answers { result ≡ crossing_against_ray_of b origin direction }
+    ensures means { IsRayCrossing (slabs b origin direction) result }
 {
     slabs::clip_ahead(&slabs(b, origin, direction))
 }

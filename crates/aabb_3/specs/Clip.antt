@@ -4,7 +4,9 @@ use Rattle.types.specs.declared.shape.Vec3.{Vec3}
 use Rattle.types.specs.declared.shape.Aabb3.{Aabb3}
 use Rattle.slabs.specs.declared.Interval.{Interval}
 use Rattle.slabs.specs.declared.Slab.{Slab}
+use Rattle.slabs.specs.declared.crossing.Crossing.{Crossing}
 use Rattle.slabs.specs.Clip.{clip_over, ahead_of}
+use Rattle.slabs.specs.Entry.{with_edge}
 
 -- the box and the line, seen in one dimension
 abbrev pub slab_x_of : Aabb3 → Vec3 → Vec3 → Slab
@@ -25,3 +27,10 @@ intersections_against_line_of b p d = clip_over (slabs b p d)
 
 unfoldable pub intersections_against_ray_of : Aabb3 → Vec3 → Vec3 → Interval
 intersections_against_ray_of b p d = ahead_of (intersections_against_line_of b p d)
+
+-- the same intervals, told with the edge by which the line comes in
+abbrev pub crossing_against_line_of : Aabb3 → Vec3 → Vec3 → Crossing
+crossing_against_line_of b p d = with_edge (slabs b p d) (intersections_against_line_of b p d)
+
+abbrev pub crossing_against_ray_of : Aabb3 → Vec3 → Vec3 → Crossing
+crossing_against_ray_of b p d = with_edge (slabs b p d) (intersections_against_ray_of b p d)

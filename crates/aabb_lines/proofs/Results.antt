@@ -10,10 +10,10 @@ use lib.Ieee.{Float, nan}
 use Rattle.std.specs.Prelude.{flat_map}
 use Rattle.std.specs.Simd.{first_chunks}
 use Rattle.types.specs.declared.shape.Aabb2.{Aabb2}
-use Rattle.slabs.specs.declared.Interval.{Interval}
-use Rattle.slabs.specs.declared.Interval.TheVariants.{Miss, Hit}
+use Rattle.slabs.specs.declared.crossing.Crossing.{Crossing}
+use Rattle.slabs.specs.declared.crossing.Crossing.TheVariants.{Miss, Hit}
 use Rattle.lists.proofs.Fill.{store_all}
-use Rattle.aabb.specs.Clip.{intersections_against_line_of}
+use Rattle.aabb.specs.Clip.{crossing_against_line_of}
 use Rattle.aabb_lines.specs.Results.{vector, encoded_of, width, results_of}
 
 -- a list of n times four floats, from the front
@@ -27,14 +27,14 @@ by_four P none more (suc n) (x ∷ y ∷ []) e = absurd (omega (arith, e))
 by_four P none more (suc n) (x ∷ y ∷ u ∷ []) e = absurd (omega (arith, e))
 by_four P none more (suc n) (x ∷ y ∷ u ∷ v ∷ l) e = more n x y u v l (by_four P none more n l (omega (arith, e)))
 
-length_encoded : (i : Interval) → length (encoded_of i) ≡ width
+length_encoded : (c : Crossing) → length (encoded_of c) ≡ width
 unfolding encoded_of
 length_encoded Miss = refl
-length_encoded (Hit tmin tmax) = refl
+length_encoded (Hit tmin tmax edge) = refl
 
 module _ (b : Aabb2) where
   abbrev first : Float → Float → Float → Float → List Float
-  first x y u v = encoded_of (intersections_against_line_of b (vector x y) (vector u v))
+  first x y u v = encoded_of (crossing_against_line_of b (vector x y) (vector u v))
 
   -- `width` entries a line
   pub length_results : (n : ℕ) (l : List Float) → length l ≡ 4 * n → length (results_of b l) ≡ width * n
@@ -43,18 +43,18 @@ module _ (b : Aabb2) where
     where
       more : (n : ℕ) (x y u v : Float) (l : List Float) → length (results_of b l) ≡ width * n → length (results_of b (x ∷ y ∷ u ∷ v ∷ l)) ≡ width * suc n
       more n x y u v l h =
-          omega (arith, h, length-append (first x y u v) (results_of b l), length_encoded (intersections_against_line_of b (vector x y) (vector u v)))
+          omega (arith, h, length-append (first x y u v) (results_of b l), length_encoded (crossing_against_line_of b (vector x y) (vector u v)))
 
-  -- i is what the single line routine answers of the line's four floats, and r is i's entries
-  pub one_line : (l : List Float) (i : Interval) (r : List Float) → length l ≡ 4 → r ≡ encoded_of i
-      → i ≡ intersections_against_line_of b (vector (get_or l 0 nan) (get_or l 1 nan)) (vector (get_or l 2 nan) (get_or l 3 nan)) → r ≡ results_of b l
+  -- c is what the single line routine answers of the line's four floats, and r is c's entries
+  pub one_line : (l : List Float) (c : Crossing) (r : List Float) → length l ≡ 4 → r ≡ encoded_of c
+      → c ≡ crossing_against_line_of b (vector (get_or l 0 nan) (get_or l 1 nan)) (vector (get_or l 2 nan) (get_or l 3 nan)) → r ≡ results_of b l
   unfolding results_of
-  one_line [] i r e f g = absurd (omega (arith, e))
-  one_line (x ∷ []) i r e f g = absurd (omega (arith, e))
-  one_line (x ∷ y ∷ []) i r e f g = absurd (omega (arith, e))
-  one_line (x ∷ y ∷ u ∷ []) i r e f g = absurd (omega (arith, e))
-  one_line (x ∷ y ∷ u ∷ v ∷ []) i r e f g = f ∙ ap encoded_of g ∙ sym (append-nil (first x y u v))
-  one_line (x ∷ y ∷ u ∷ v ∷ w ∷ l) i r e f g = absurd (omega (arith, e))
+  one_line [] c r e f g = absurd (omega (arith, e))
+  one_line (x ∷ []) c r e f g = absurd (omega (arith, e))
+  one_line (x ∷ y ∷ []) c r e f g = absurd (omega (arith, e))
+  one_line (x ∷ y ∷ u ∷ []) c r e f g = absurd (omega (arith, e))
+  one_line (x ∷ y ∷ u ∷ v ∷ []) c r e f g = f ∙ ap encoded_of g ∙ sym (append-nil (first x y u v))
+  one_line (x ∷ y ∷ u ∷ v ∷ w ∷ l) c r e f g = absurd (omega (arith, e))
 
   -- the results of the lines, one by one
   pub all_lines : (n : ℕ) (l : List Float) → length l ≡ 4 * n → flat_map (results_of b) (first_chunks 4 n l) ≡ results_of b l
@@ -82,20 +82,26 @@ module _ (b : Aabb2) where
   one_more f (l ∷ lines) (suc n) d h =
       ap (λ (r : List Float). f l ++ r) (one_more f lines n d (omega arith)) ∙ sym (append_assoc (f l) (flat_map f (take n lines)) (f (get_or lines n d)))
 
-  three : (l t : List Float) (at : ℕ) → length t ≡ width → set (set (set l at (get_or t 0 nan)) (at + 1) (get_or t 1 nan)) (at + 2) (get_or t 2 nan) ≡ sets l at t
-  three l [] at e = absurd (omega (arith, e))
-  three l (x ∷ []) at e = absurd (omega (arith, e))
-  three l (x ∷ y ∷ []) at e = absurd (omega (arith, e))
-  three l (x ∷ y ∷ z ∷ []) at e =
+  four : (l t : List Float) (at : ℕ) → length t ≡ width
+      → set (set (set (set l at (get_or t 0 nan)) (at + 1) (get_or t 1 nan)) (at + 2) (get_or t 2 nan)) (at + 3) (get_or t 3 nan) ≡ sets l at t
+  four l [] at e = absurd (omega (arith, e))
+  four l (x ∷ []) at e = absurd (omega (arith, e))
+  four l (x ∷ y ∷ []) at e = absurd (omega (arith, e))
+  four l (x ∷ y ∷ z ∷ []) at e = absurd (omega (arith, e))
+  four l (x ∷ y ∷ z ∷ w ∷ []) at e =
       let second : at + 1 ≡ suc at = omega arith in
       let third : at + 2 ≡ suc (suc at) = omega arith in
-      ap (λ (k : ℕ). set (set (set l at x) k y) (at + 2) z) second ∙ ap (λ (k : ℕ). set (set (set l at x) (suc at) y) k z) third
-  three l (x ∷ y ∷ z ∷ w ∷ t) at e = absurd (omega (arith, e))
+      let fourth : at + 3 ≡ suc (suc (suc at)) = omega arith in
+      ap (λ (k : ℕ). set (set (set (set l at x) k y) (at + 2) z) (at + 3) w) second
+      ∙ ap (λ (k : ℕ). set (set (set (set l at x) (suc at) y) k z) (at + 3) w) third
+      ∙ ap (λ (k : ℕ). set (set (set (set l at x) (suc at) y) (suc (suc at)) z) k w) fourth
+  four l (x ∷ y ∷ z ∷ w ∷ v ∷ t) at e = absurd (omega (arith, e))
 
   -- one line's result stored behind them
   pub next_line : (lines : List (List Float)) (n : ℕ) (l l' t d : List Float) → n < length lines → width * length lines ≤ length l → length t ≡ width
       → t ≡ results_of b (get_or lines n d) → Written lines n l l'
-      → Written lines (n + 1) l (set (set (set l' (width * n) (get_or t 0 nan)) (width * n + 1) (get_or t 1 nan)) (width * n + 2) (get_or t 2 nan))
+      → Written lines (n + 1) l
+      (set (set (set (set l' (width * n) (get_or t 0 nan)) (width * n + 1) (get_or t 1 nan)) (width * n + 2) (get_or t 2 nan)) (width * n + 3) (get_or t 3 nan))
   next_line lines n l l' t d h room size is w =
       let done = flat_map (results_of b) (take n lines) in
       let more : flat_map (results_of b) (take (n + 1) lines) ≡ done ++ t =
@@ -103,7 +109,7 @@ module _ (b : Aabb2) where
       let place : width * n + length t ≡ width * (n + 1) = omega (arith, size) in
       record {
         written =
-            three l' t (width * n) size
+            four l' t (width * n) size
             ∙ ap (λ (r : List Float). sets r (width * n) t) w.written
             ∙ store_all t done l (width * n) w.counted (omega (arith, size, room, h))
             ∙ ap (λ (k : ℕ). (done ++ t) ++ drop k l) place

@@ -6,22 +6,23 @@ ghost use Rattle.lists.specs.Lent.{leaves};
 ghost use Rattle.aabb_lines.specs.Results.{width, encoded_of, results_of};
 ghost use Rattle.aabb_lines.specs.Answer.{intersections_against_lines_of};
 
-use slabs::Interval;
+use slabs::Crossing;
 use types::{Aabb2, Refusal, Vec2};
 
 // How many floats a line has.
 const LINE: usize = 4;
 
 // How many its result has: `width` of the definitions.
-const RESULT: usize = 3;
+const RESULT: usize = 4;
 
-// 1 and the interval, or three zeros: C takes a line's result as so many floats, LINE_RESULT_FLOATS of the header, with a 1 or a 0 first.
-fn encoded(i: Interval) -> [f32; RESULT]
-    ensures { result ≡ encoded_of i }
+// 1, the interval and the edge's number, or four zeros: C takes a line's result as so many floats, LINE_RESULT_FLOATS of the header, with a 1 or
+// a 0 first.
+fn encoded(c: Crossing) -> [f32; RESULT]
+    ensures { result ≡ encoded_of c }
 {
-    match i {
-        Interval::Miss => [0.0, 0.0, 0.0],
-        Interval::Hit { tmin, tmax } => [1.0, tmin, tmax],
+    match c {
+        Crossing::Miss => [0.0, 0.0, 0.0, 0.0],
+        Crossing::Hit { tmin, tmax, edge } => [1.0, tmin, tmax, edge.number() as f32],
     }
 }
 
@@ -42,10 +43,11 @@ fn write_results(b: Aabb2, lines: &[[f32; LINE]], out: &mut [f32])
     ensures { out.new ≡ flat_map (results_of b) lines.now ++ drop (width * length lines.now) out.old }
 {
     for (i, line) in lines.iter().enumerate() {
-        let [hit, tmin, tmax] = result_of(b, line);
+        let [hit, tmin, tmax, edge] = result_of(b, line);
         out[RESULT * i] = hit;
         out[RESULT * i + 1] = tmin;
         out[RESULT * i + 2] = tmax;
+        out[RESULT * i + 3] = edge;
     }
 }
 

@@ -4,8 +4,9 @@
 ghost use Rattle.std.specs.Prelude.{◌≡◌};
 ghost use Rattle.c_answers.specs.Answers.{interval_answer_of};
 ghost use Rattle.c_answers.specs.Told.{Tells};
-ghost use Rattle.slabs.specs.Promise.{IsLineAnswer, AnswerLaws};
-ghost use Rattle.aabb_3.specs.Clip.{slabs, intersections_against_line_of};
+ghost use Rattle.slabs.specs.Entry.{IsLineCrossing};
+ghost use Rattle.slabs.specs.Promise.{AnswerLaws};
+ghost use Rattle.aabb_3.specs.Clip.{slabs, crossing_against_line_of};
 ghost use Rattle.aabb_3.specs.Inside.{is_include_point_of, center_of};
 
 use c_answers::IntervalAnswer;
@@ -13,8 +14,9 @@ use types::{Aabb3, Vec3};
 
 // The stretch of the line `origin` + t * `direction` in the box `b`, as `aabb::intersections_against_line` has it, with z after x and y: from tmin to
 // tmax, tmin <= tmax, both finite, faces included. None if the line misses `b`. Rounding can turn a touched edge or corner into a miss, and a narrow
-// miss into a hit. A line that is in the box only at t beyond the finite numbers misses it.
-// Example: (0, 0, 0, 4, 2, 1), (6, -1, 0.5), (-1, 1, 0) gives (2, 3).
+// miss into a hit. A line that is in the box only at t beyond the finite numbers misses it. The edge is a face of the box, told by the same rule with
+// z after y: `Edge::Near` at min_z and `Edge::Far` at max_z.
+// Example: (0, 0, 0, 4, 2, 1), (6, -1, 0.5), (-1, 1, 0) gives (2, 3, `Edge::Right`).
 #[unsafe(no_mangle)]
 #[tactic(auto, using(slabs::proofs::Promise::answer_laws))]
 pub extern "C" fn bgz_aabb_3_intersections_against_line(
@@ -22,8 +24,8 @@ pub extern "C" fn bgz_aabb_3_intersections_against_line(
     origin: Vec3,
     direction: Vec3,
 ) -> IntervalAnswer
-    ensures answers { result ≡ interval_answer_of (intersections_against_line_of b origin direction) }
-    ensures means { Tells interval_answer_of result (IsLineAnswer (slabs b origin direction)) }
+    ensures answers { result ≡ interval_answer_of (crossing_against_line_of b origin direction) }
+    ensures means { Tells interval_answer_of result (IsLineCrossing (slabs b origin direction)) }
     ensures laws { AnswerLaws }
 {
     IntervalAnswer::from(aabb_3::intersections_against_line(b, origin, direction))

@@ -8,8 +8,9 @@ use Rattle.types.specs.declared.shape.Aabb2.{Aabb2}
 use Rattle.types.specs.declared.shape.Aabb3.{Aabb3}
 use Rattle.types.specs.declared.refusal.Refusal.{Refusal}
 use Rattle.types.specs.declared.refusal.RefusalAt.{RefusalAt}
-use Rattle.slabs.specs.declared.Interval.{Interval}
-use Rattle.slabs.specs.declared.Interval.TheVariants.{Miss, Hit}
+use Rattle.slabs.specs.declared.crossing.Crossing.{Crossing}
+use Rattle.slabs.specs.declared.crossing.Crossing.TheVariants.{Miss, Hit}
+use Rattle.slabs.specs.Entry.{number_of as edge_number_of}
 use Rattle.types.specs.declared.answer.Pixels.{Pixels}
 use Rattle.types.specs.Refusal.{number_of}
 use Rattle.c_answers.specs.declared.FloatAnswer.{FloatAnswer}
@@ -64,9 +65,9 @@ box3_answer_of r = record { status = status_of r; value = result_unwrap_or r no_
 abbrev pub bool_answer_of : Result Bool Refusal → BoolAnswer
 bool_answer_of r = record { status = status_of r; value = result_unwrap_or r false }
 
-abbrev pub interval_answer_of : Interval → IntervalAnswer
-interval_answer_of Miss = record { status = none; tmin = +0; tmax = +0 }
-interval_answer_of (Hit a b) = record { status = answered; tmin = a; tmax = b }
+abbrev pub interval_answer_of : Crossing → IntervalAnswer
+interval_answer_of Miss = record { status = none; tmin = +0; tmax = +0; edge = 0 }
+interval_answer_of (Hit a b edge) = record { status = answered; tmin = a; tmax = b; edge = edge_number_of edge }
 
 abbrev pub pixels_answer_of : Result Pixels Refusal → PixelsAnswer
 pixels_answer_of (Ok p) = record { status = answered; x0 = p.x0; y0 = p.y0; x1 = p.x1; y1 = p.y1 }

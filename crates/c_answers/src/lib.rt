@@ -5,7 +5,7 @@
 ghost use Rattle.std.specs.Prelude.{◌≡◌};
 ghost use Rattle.c_answers.specs.Status.{status_of};
 
-use slabs::Interval;
+use slabs::Crossing;
 use types::{Aabb2, Aabb3, Pixels, Refusal, RefusalAt, Vec2, Vec3};
 
 // The statuses are numbers, each beside a value: C has no enum that carries one.
@@ -104,6 +104,8 @@ pub struct IntervalAnswer {
     pub tmin: f32,
     // Where it ends.
     pub tmax: f32,
+    // The edge by which the line comes in at tmin, or none.
+    pub edge: u32,
 }
 
 // Columns from x0 up to and without x1, rows from y0 up to and without y1.
@@ -271,22 +273,24 @@ impl From<Result<bool, Refusal>> for BoolAnswer {
     }
 }
 
-impl From<Interval> for IntervalAnswer {
+impl From<Crossing> for IntervalAnswer {
     ghost use Rattle.c_answers.specs.Answers.{interval_answer_of};
 
     ghost from_gives = { λ answer told. told ≡ interval_answer_of answer };
 
-    fn from(answer: Interval) -> IntervalAnswer {
+    fn from(answer: Crossing) -> IntervalAnswer {
         match answer {
-            Interval::Miss => IntervalAnswer {
+            Crossing::Miss => IntervalAnswer {
                 status: NONE,
                 tmin: 0.0,
                 tmax: 0.0,
+                edge: 0,
             },
-            Interval::Hit { tmin, tmax } => IntervalAnswer {
+            Crossing::Hit { tmin, tmax, edge } => IntervalAnswer {
                 status: ANSWERED,
                 tmin,
                 tmax,
+                edge: edge.number(),
             },
         }
     }

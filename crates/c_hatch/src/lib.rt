@@ -32,7 +32,7 @@ const _: () = prove!(hatch_format::BYTES_MAX == 64007);
 
 const _: () = prove!(report::PREFIX == 64008);
 
-const _: () = prove!(report::REPORT_MAX == 54014);
+const _: () = prove!(report::REPORT_MAX == 58014);
 
 // Reads the floats of the records of a hatch list. A float may have any bits; a NaN is read as a NaN, whose bits may differ.
 // Writes the 8 * count floats to the start of `out` and answers version and count.
@@ -132,7 +132,8 @@ pub extern "C" fn bgz_hatch_merge(first: &[u8], second: &[u8], out: &mut [u8]) -
 
 // The report on a hatch list, as text in ASCII. The first line is "HSL", version and count. Then each record has a line of its own:
 // its place from 1, and what `aabb::intersections_against_line` answers for its box, origin and direction: "miss", or "hit" with tmin
-// and tmax, each as the eight lower-case hexadecimal digits of its bits, any zero as 00000000. Fields stand one space apart, and a
+// and tmax, each as the eight lower-case hexadecimal digits of its bits, any zero as 00000000, and the edge as a letter: l for
+// `Edge::Left`, r for `Edge::Right`, b for `Edge::Lower`, t for `Edge::Upper`, n for `Edge::None`. Fields stand one space apart, and a
 // line ends in a line feed. For bytes that are no hatch list the only line is "refused", the number of the refusal of
 // `hatch::read_floats`, and its byte. Bytes beyond the first `HATCH_BYTES_MAX` + 1 change nothing: they need not be handed over.
 // Writes the text to the start of `out`, with no NUL after it, and answers its length in bytes. If `out` is shorter, it is filled with

@@ -6,6 +6,8 @@ use lib.Ieee.{Float, fin, round, of_int, of_bits, neg, add, sub, mul, div, lt, l
 use Rattle.float.specs.Values.{abs_of, min_of, max_of}
 use Rattle.rounding.specs.Values.{whole_of, ceil_of}
 use Rattle.aabb.specs.Clip.{narrowed_of, narrow_all, ordered_of, clip_over, ahead_of, intersections_against_line_of, intersections_against_ray_of}
+use Rattle.slabs.specs.Entry.{by_high, starts_at, first_at, edge_over, named, with_edge}
+use Rattle.aabb_3.specs.Clip.{intersections_against_line_of as line_in_space_of}
 use Rattle.aabb_lines.specs.Results.{encoded_of, results_of}
 use Rattle.aabb_lines.specs.Answer.{intersections_against_lines_of}
 use Rattle.range.specs.Values.{intersection_length_of}
@@ -35,8 +37,8 @@ by_square v e is = is ∙ sym (ap (λ y. Ok (sqrt_of y)) e)
 
 pub hold : FiguresHold
 unfolding round of_int of_bits neg add sub mul div lt le ne eq is_nan to_unsigned abs_of min_of max_of whole_of ceil_of
-    narrowed_of narrow_all ordered_of clip_over ahead_of intersections_against_line_of intersections_against_ray_of intersection_length_of rasterize_of
-    encoded_of results_of intersections_against_lines_of
+    narrowed_of narrow_all ordered_of clip_over ahead_of intersections_against_line_of intersections_against_ray_of line_in_space_of intersection_length_of rasterize_of
+    by_high starts_at first_at edge_over named with_edge encoded_of results_of intersections_against_lines_of
     tiles_of overlapping_tiles_of
     step_of axis_from at within in_ranges_of first_outside exit upto positions on_side_of in_sides_of number kept pixels entries stroke_of
     sides_too_large_of within_limit_of refusal_of offender_from same_ends_of unless_offender accept_of if_accepted fitted walk_of larger_difference_of pixels_bound_of
@@ -49,4 +51,5 @@ hold = (
   (λ _ _. refl, (λ _ _. refl, (λ _ _. refl, (λ _ _. refl, (λ _ _. refl, (λ _ _. refl, (λ _ _. refl, (λ _ _. refl, (λ _ _. refl, (λ _ _. refl, (λ _ _. refl, (λ _ _. refl, (λ _ _. refl, tt))))))))))))),
   ((refl, refl, refl), ((refl, refl, refl), ((refl, refl, refl), ((refl, refl, refl), ((refl, refl, refl), ((refl, refl, refl), ((refl, refl, refl), (refl, (refl, (refl, (refl, tt))))))))))),
   (by_square (fin false 17 (negsuc 3)) refl refl, (refl, (refl, (refl, (refl, (refl, (refl, (refl, (refl, (refl, (refl, (refl, (refl, (refl, tt)))))))))))))),
+  (refl, (refl, (refl, (refl, (refl, (refl, (refl, (refl, (refl, (refl, (refl, (refl, (refl, (refl, (refl, (refl, (refl, (refl, (refl, (refl, (refl, (refl, (refl, (refl, (refl, (refl, (refl, (refl, (refl, (refl, (refl, (refl, (refl, (refl, (refl, (refl, (refl, (refl, (refl, (refl, (refl, (refl, (refl, (refl, tt)))))))))))))))))))))))))))))))))))))))))))),
 )

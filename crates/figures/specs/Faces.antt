@@ -30,14 +30,24 @@ twins =
     ∷ minus 4 ∷ plus 1 ∷ plus 0 ∷ plus 1
     ∷ []
 
--- hit 2, 3; miss; hit 2, 2; miss; hit -1, 1
+-- hit 2, 3 by the right edge; miss; hit 2, 2 by the right edge; miss; hit -1, 1 by the lower edge
 abbrev results : List Float
 results =
-    plus 1 ∷ plus 2 ∷ plus 3
-    ∷ plus 0 ∷ plus 0 ∷ plus 0
-    ∷ plus 1 ∷ plus 2 ∷ plus 2
-    ∷ plus 0 ∷ plus 0 ∷ plus 0
-    ∷ plus 1 ∷ minus 1 ∷ plus 1
+    plus 1 ∷ plus 2 ∷ plus 3 ∷ plus 2
+    ∷ plus 0 ∷ plus 0 ∷ plus 0 ∷ plus 0
+    ∷ plus 1 ∷ plus 2 ∷ plus 2 ∷ plus 2
+    ∷ plus 0 ∷ plus 0 ∷ plus 0 ∷ plus 0
+    ∷ plus 1 ∷ minus 1 ∷ plus 1 ∷ plus 3
+    ∷ []
+
+-- in the mirror left is right
+abbrev mirrored_results : List Float
+mirrored_results =
+    plus 1 ∷ plus 2 ∷ plus 3 ∷ plus 1
+    ∷ plus 0 ∷ plus 0 ∷ plus 0 ∷ plus 0
+    ∷ plus 1 ∷ plus 2 ∷ plus 2 ∷ plus 1
+    ∷ plus 0 ∷ plus 0 ∷ plus 0 ∷ plus 0
+    ∷ plus 1 ∷ minus 1 ∷ plus 1 ∷ plus 3
     ∷ []
 
 -- a line, and a float more
@@ -50,11 +60,11 @@ five = plus 6 ∷ minus 1 ∷ minus 1 ∷ plus 1 ∷ plus 6 ∷ []
 abbrev pub faces : List (Type 0)
 faces =
     face right lines results
-    ∷ face left twins results
+    ∷ face left twins mirrored_results
     -- no line
     ∷ face right [] []
-    -- five floats: 14, whether there is room for one line or not; one line with room for two entries: 1
+    -- five floats: 14, whether there is room for one line or not; one line with room for three entries: 1
+    ∷ face_refused right five 4 Lines
     ∷ face_refused right five 3 Lines
-    ∷ face_refused right five 2 Lines
-    ∷ face_refused right one 2 Room
+    ∷ face_refused right one 3 Room
     ∷ []

@@ -3,6 +3,7 @@ pub mod Known
 pub mod Twins
 pub mod Further
 pub mod Faces
+pub mod Edges
 pub mod Offenders
 pub mod Inside
 pub mod Ink

@@ -4,8 +4,10 @@ use Rattle.std.specs.Prelude.{◌≡◌, Bool, true, false, List, [], ◌∷◌,
 use Rattle.std.specs.Float.{binary32}
 use Rattle.std.specs.Float.Ieee.{round}
 use Rattle.types.specs.declared.shape.Vec2.{Vec2}
+use Rattle.types.specs.declared.shape.Vec3.{Vec3}
 use Rattle.types.specs.declared.shape.Range.{Range}
 use Rattle.types.specs.declared.shape.Aabb2.{Aabb2}
+use Rattle.types.specs.declared.shape.Aabb3.{Aabb3}
 use Rattle.slabs.specs.declared.Interval.{Interval}
 use Rattle.types.specs.declared.answer.Pixels.{Pixels}
 use Rattle.types.specs.declared.refusal.Refusal.{Refusal}
@@ -13,7 +15,9 @@ use Rattle.types.specs.declared.refusal.Refusal.TheVariants.{Room}
 use Rattle.types.specs.declared.refusal.RefusalAt.{RefusalAt}
 use Rattle.types.specs.Refusal.{nowhere}
 use Rattle.range.specs.Values.{intersection_length_of}
-use Rattle.aabb.specs.Clip.{intersections_against_line_of, intersections_against_ray_of}
+use Rattle.slabs.specs.declared.crossing.Crossing.{Crossing}
+use Rattle.aabb.specs.Clip.{intersections_against_line_of, intersections_against_ray_of, crossing_against_line_of, crossing_against_ray_of}
+use Rattle.aabb_3.specs.Clip.{crossing_against_line_of as crossing_in_space_of}
 use Rattle.aabb_lines.specs.Results.{results_of}
 use Rattle.aabb_lines.specs.Answer.{intersections_against_lines_of}
 use Rattle.aabb2_raster.specs.Raster.{rasterize_of}
@@ -44,11 +48,17 @@ quarters n = round binary32 false n 4
 abbrev pub at : Float → Float → Vec2
 at x y = record { x = x; y = y }
 
+abbrev pub in_space : Float → Float → Float → Vec3
+in_space x y z = record { x = x; y = y; z = z }
+
 abbrev pub range : Float → Float → Range
 range low high = record { low = low; high = high }
 
 abbrev pub box : Float → Float → Float → Float → Aabb2
 box a b c d = record { min_x = a; min_y = b; max_x = c; max_y = d }
+
+abbrev pub solid : Float → Float → Float → Float → Float → Float → Aabb3
+solid a b c d e f = record { min_x = a; min_y = b; min_z = c; max_x = d; max_y = e; max_z = f }
 
 -- ---- rows: what is asked, and that the definition answers it so, the sign of a zero too
 
@@ -58,6 +68,16 @@ line b point direction answer = intersections_against_line_of b point direction 
 
 abbrev pub ray : Aabb2 → Vec2 → Vec2 → Interval → Type 0
 ray b point direction answer = intersections_against_ray_of b point direction ≡ answer
+
+-- a line or a ray with the edge by which it comes in, and a line of space
+abbrev pub crossing : Aabb2 → Vec2 → Vec2 → Crossing → Type 0
+crossing b point direction answer = crossing_against_line_of b point direction ≡ answer
+
+abbrev pub crossing_ray : Aabb2 → Vec2 → Vec2 → Crossing → Type 0
+crossing_ray b point direction answer = crossing_against_ray_of b point direction ≡ answer
+
+abbrev pub crossing_in_space : Aabb3 → Vec3 → Vec3 → Crossing → Type 0
+crossing_in_space b point direction answer = crossing_in_space_of b point direction ≡ answer
 
 -- the lines of a face by their floats: the results are these, and a list with just room for them is accepted
 abbrev pub face : Aabb2 → List Float → List Float → Type 0

@@ -6,8 +6,10 @@ use native.Mathlib.Omega.{arith}
 use lib.ListN.{length, take, length-append}
 use lib.Ieee.{Float}
 use Rattle.lists.specs.Lent.{written}
-use Rattle.slabs.specs.declared.Interval.{Interval}
-use Rattle.slabs.specs.declared.Interval.TheVariants.{Miss, Hit}
+use Rattle.slabs.specs.declared.crossing.Edge.{Edge}
+use Rattle.slabs.specs.declared.crossing.Edge.TheVariants.{None, Left, Right, Lower, Upper, Near, Far}
+use Rattle.slabs.specs.declared.crossing.Crossing.{Crossing}
+use Rattle.slabs.specs.declared.crossing.Crossing.TheVariants.{Miss, Hit}
 use Rattle.text.specs.Page.{Page, page, puts}
 use Rattle.text.specs.Ascii.{ascii}
 use Rattle.text.specs.Numbers.{decimal, hex8}
@@ -21,32 +23,44 @@ use Rattle.std.specs.Prelude.{Result, Ok, Err}
 use Rattle.types.specs.Refusal.{number_of}
 use Rattle.types.specs.declared.refusal.RefusalAt.{RefusalAt}
 use Rattle.report.specs.declared.TheConstants.{REPORT_MAX}
-use Rattle.report.specs.Report.{clip_at, field_of, end_of, line_of, lines_of, opening_of, refusal_of, text_of, report_of}
+use Rattle.report.specs.Report.{clip_at, field_of, end_of, letter_of, line_of, lines_of, opening_of, refusal_of, text_of, report_of}
 
 end_length : (x : Float) → length (end_of x) ≡ 9
 unfolding end_of hex8
 end_length x = refl
+
+letter_length : (e : Edge) → length (letter_of e) ≡ 2
+unfolding letter_of
+letter_length None = refl
+letter_length Left = refl
+letter_length Right = refl
+letter_length Lower = refl
+letter_length Upper = refl
+letter_length Near = refl
+letter_length Far = refl
 
 -- the space, and at most k digits
 field_length : (n k : ℕ) → length (decimal n) ≤ k → length (field_of n) ≤ suc k
 unfolding field_of
 field_length n k h = omega arith
 
-line_length : (i : ℕ) (t : Interval) → i < 10000 → length (line_of i t) ≤ 27
+line_length : (i : ℕ) (t : Crossing) → i < 10000 → length (line_of i t) ≤ 29
 unfolding line_of
 line_length i Miss h = omega (arith, length-append (decimal i) (ascii " miss\n"), decimal_4 i h)
-line_length i (Hit a b) h =
+line_length i (Hit a b e) h =
     omega (
       arith,
-      length-append (decimal i) (ascii " hit" ++ (end_of a ++ (end_of b ++ ascii "\n"))),
-      length-append (end_of a) (end_of b ++ ascii "\n"),
-      length-append (end_of b) (ascii "\n"),
+      length-append (decimal i) (ascii " hit" ++ (end_of a ++ (end_of b ++ (letter_of e ++ ascii "\n")))),
+      length-append (end_of a) (end_of b ++ (letter_of e ++ ascii "\n")),
+      length-append (end_of b) (letter_of e ++ ascii "\n"),
+      length-append (letter_of e) (ascii "\n"),
       end_length a,
       end_length b,
+      letter_length e,
       decimal_4 i h,
     )
 
-lines_length : (fs : List Float) (n : ℕ) → n ≤ 2000 → length (lines_of fs n) ≤ 27 * n
+lines_length : (fs : List Float) (n : ℕ) → n ≤ 2000 → length (lines_of fs n) ≤ 29 * n
 unfolding lines_of
 lines_length fs zero h = omega arith
 lines_length fs (suc n) h =

@@ -29,7 +29,7 @@ examples =
           head 2
           ++ (box ++ float 0x40c0_0000 ++ float 0xbf80_0000 ++ float 0xbf80_0000 ++ float 0x3f80_0000)
           ++ (box ++ float 0x40c0_0000 ++ float 0xbf80_0000 ++ float 0x3f80_0000 ++ float 0x3f80_0000);
-      printed = ascii "HSL 1 2\n1 hit 40000000 40400000\n2 miss\n";
+      printed = ascii "HSL 1 2\n1 hit 40000000 40400000 r\n2 miss\n";
     }
     -- the same with both lines mirrored in y = 1: point 6 3, direction -1 -1; then direction 1 -1
     ∷ record {
@@ -37,17 +37,17 @@ examples =
           head 2
           ++ (box ++ float 0x40c0_0000 ++ float 0x4040_0000 ++ float 0xbf80_0000 ++ float 0xbf80_0000)
           ++ (box ++ float 0x40c0_0000 ++ float 0x4040_0000 ++ float 0x3f80_0000 ++ float 0xbf80_0000);
-      printed = ascii "HSL 1 2\n1 hit 40000000 40400000\n2 miss\n";
+      printed = ascii "HSL 1 2\n1 hit 40000000 40400000 r\n2 miss\n";
     }
     -- point 0 1, direction -1 0: from -4 to -0
     ∷ record {
       bytes = head 1 ++ (box ++ float 0 ++ float 0x3f80_0000 ++ float 0xbf80_0000 ++ float 0);
-      printed = ascii "HSL 1 1\n1 hit c0800000 00000000\n";
+      printed = ascii "HSL 1 1\n1 hit c0800000 00000000 r\n";
     }
     -- a NaN leaves the interval of all finite numbers
     ∷ record {
       bytes = head 1 ++ (box ++ float 0xffc0_0001 ++ float 0x7f80_0001 ++ float 0x7fff_ffff ++ float 0x3f80_0000);
-      printed = ascii "HSL 1 1\n1 hit ff7fffff 7f7fffff\n";
+      printed = ascii "HSL 1 1\n1 hit ff7fffff 7f7fffff n\n";
     }
     ∷ record { bytes = head 0; printed = ascii "HSL 1 0\n" }
     ∷ record { bytes = []; printed = ascii "refused 10 0\n" }

@@ -4,10 +4,12 @@ use Rattle.std.specs.Float.{nan, binary32}
 use Rattle.std.specs.Float.Ieee.{eq, to_bits}
 use Rattle.types.specs.Refusal.{number_of}
 use Rattle.types.specs.declared.refusal.RefusalAt.{RefusalAt}
-use Rattle.slabs.specs.declared.Interval.{Interval}
-use Rattle.slabs.specs.declared.Interval.TheVariants.{Miss, Hit}
+use Rattle.slabs.specs.declared.crossing.Edge.{Edge}
+use Rattle.slabs.specs.declared.crossing.Edge.TheVariants.{None, Left, Right, Lower, Upper, Near, Far}
+use Rattle.slabs.specs.declared.crossing.Crossing.{Crossing}
+use Rattle.slabs.specs.declared.crossing.Crossing.TheVariants.{Miss, Hit}
 use Rattle.float.specs.Rounded.{+0}
-use Rattle.aabb.specs.Clip.{intersections_against_line_of}
+use Rattle.aabb.specs.Clip.{crossing_against_line_of}
 use Rattle.hatch_format.specs.Format.{hsl, rows}
 use Rattle.hatch_format.specs.Decode.{Answer, decode, float_of}
 use Rattle.hatch_read.specs.Record.{record_by}
@@ -22,10 +24,10 @@ abbrev pub record_in : List Float → ℕ → Record
 record_in fs k = record_by λ i. get_or fs (8 * k + i) nan
 
 -- a record, clipped as a line
-abbrev pub clip_of : Record → Interval
-clip_of r = intersections_against_line_of r.face r.point r.direction
+abbrev pub clip_of : Record → Crossing
+clip_of r = crossing_against_line_of r.face r.point r.direction
 
-abbrev pub clip_at : List Float → ℕ → Interval
+abbrev pub clip_at : List Float → ℕ → Crossing
 clip_at fs k = clip_of (record_in fs k)
 
 -- ---- its line
@@ -41,10 +43,20 @@ field_of n = ascii " " ++ decimal n
 unfoldable pub end_of : Float → List ℕ
 end_of x = ascii " " ++ hex8 (shown x)
 
--- the line of text on a record, from its place and its interval
-unfoldable pub line_of : ℕ → Interval → List ℕ
+-- A space, and the letter of the edge by which the line comes in. A box of the plane has no near edge and no far one.
+unfoldable pub letter_of : Edge → List ℕ
+letter_of None = ascii " n"
+letter_of Left = ascii " l"
+letter_of Right = ascii " r"
+letter_of Lower = ascii " b"
+letter_of Upper = ascii " t"
+letter_of Near = ascii " n"
+letter_of Far = ascii " n"
+
+-- the line of text on a record, from its place and its crossing
+unfoldable pub line_of : ℕ → Crossing → List ℕ
 line_of place Miss = decimal place ++ ascii " miss\n"
-line_of place (Hit tmin tmax) = decimal place ++ (ascii " hit" ++ (end_of tmin ++ (end_of tmax ++ ascii "\n")))
+line_of place (Hit tmin tmax edge) = decimal place ++ (ascii " hit" ++ (end_of tmin ++ (end_of tmax ++ (letter_of edge ++ ascii "\n"))))
 
 -- ---- the whole text
 

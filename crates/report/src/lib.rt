@@ -7,20 +7,20 @@ ghost use Rattle.lists.specs.Lent.{written};
 ghost use Rattle.hatch_format.specs.Decode.{float_of, patterns_of, Holds};
 ghost use Rattle.text.specs.Page.{Adds};
 ghost use Rattle.report.specs.Prefix.{ReportsOnFile};
-ghost use Rattle.report.specs.Report.{shown, field_of, end_of, line_of, lines_of, opening_of, refusal_of, report_of};
+ghost use Rattle.report.specs.Report.{shown, field_of, end_of, letter_of, line_of, lines_of, opening_of, refusal_of, report_of};
 
 use bits::Entry;
 use hatch_format::{BYTES_MAX, HSL, Head, RECORDS_AT};
 use hatch_read::Record;
-use slabs::Interval;
+use slabs::{Crossing, Edge};
 use text::Page;
 use types::RefusalAt;
 
 // A file's report is decided by so many of its first bytes. They are one more than the longest file has, since a longer file is refused.
 pub const PREFIX: usize = BYTES_MAX + 1;
 
-// No report is longer: its first line has at most 14 bytes, and the line of each of at most 2,000 records has at most 27.
-pub const REPORT_MAX: usize = 54014;
+// No report is longer: its first line has at most 14 bytes, and the line of each of at most 2,000 records has at most 29.
+pub const REPORT_MAX: usize = 58014;
 
 // A space, and a number in decimal.
 fn put_field(page: &mut Page<'_>, n: usize)
@@ -46,17 +46,32 @@ fn put_end(page: &mut Page<'_>, x: f32)
     page.put_hex8(shown_bits(x));
 }
 
-// The line of text on a record, from its place and the stretch of its line in its box.
-fn put_line(page: &mut Page<'_>, place: usize, t: Interval)
+// A space, and the letter of an edge. A box of the plane has no near edge and no far one.
+#[tactic(auto, unfolding(crate::specs::Report::letter_of))]
+fn put_edge(page: &mut Page<'_>, edge: Edge)
+    ensures { Adds page.old (letter_of edge) page.new }
+{
+    match edge {
+        Edge::Left => page.put(b" l"),
+        Edge::Right => page.put(b" r"),
+        Edge::Lower => page.put(b" b"),
+        Edge::Upper => page.put(b" t"),
+        Edge::None | Edge::Near | Edge::Far => page.put(b" n"),
+    }
+}
+
+// The line of text on a record, from its place and the crossing of its line and its box.
+fn put_line(page: &mut Page<'_>, place: usize, t: Crossing)
     ensures { Adds page.old (line_of place t) page.new }
 {
     page.put_decimal(place);
     match t {
-        Interval::Miss => page.put(b" miss\n"),
-        Interval::Hit { tmin, tmax } => {
+        Crossing::Miss => page.put(b" miss\n"),
+        Crossing::Hit { tmin, tmax, edge } => {
             page.put(b" hit");
             put_end(page, tmin);
             put_end(page, tmax);
+            put_edge(page, edge);
             page.put(b"\n");
         }
     }

@@ -1,1 +1,3 @@
+pub mod Clipped
+pub mod Entry
 pub mod Promise

@@ -32,7 +32,7 @@ data Left (ss : List Slab) (t u : Float) : Interval → Type 0 where
 any_tail : {P : Slab → Type 0} (s : Slab) (ss : List Slab) → Any P ss → Any P (s ∷ ss)
 any_tail s ss r = (suc r.0, r.1, omega (arith, r.2), r.3, r.4)
 
-miss_all : (ss : List Slab) → narrow_all ss Miss ≡ Miss
+pub miss_all : (ss : List Slab) → narrow_all ss Miss ≡ Miss
 unfolding narrow_all narrowed_of
 miss_all [] = refl
 miss_all (s ∷ ss) = miss_all ss
@@ -68,11 +68,11 @@ left (s ∷ ss) t u = one_more s ss (left ss) t u
 
 -- ---- the answers
 
-lowest_number : is_nan lowest ≡ false
+pub lowest_number : is_nan lowest ≡ false
 unfolding is_nan neg of_bits
 lowest_number = refl
 
-largest_number : is_nan largest ≡ false
+pub largest_number : is_nan largest ≡ false
 unfolding is_nan of_bits
 largest_number = refl
 

@@ -1,3 +1,4 @@
 pub mod Clip
+pub mod Entry
 pub mod Inside
 pub mod Promise

@@ -1,11 +1,15 @@
 // An upright box, dimension by dimension: a slab is what one dimension has of the box and of a line that is clipped against it.
-#![tactic(auto, unfolding(crate::specs::Clip::narrowed_of, crate::specs::Clip::ordered_of, crate::specs::Clip::ahead_of, crate::specs::Clip::narrow_all, crate::specs::Clip::clip_over))]
+#![tactic(auto, unfolding(crate::specs::Clip::ordered_of))]
 
 ghost use Rattle.std.specs.Prelude.{◌≡◌};
-ghost use Rattle.slabs.specs.Clip.{outside, all_finite_of, narrowed_of, ordered_of, ahead_of, clip_over};
-ghost use Rattle.slabs.specs.Promise.{IsLineAnswer, IsRayAnswer, AnswerLaws};
+ghost use Rattle.slabs.specs.Clip.{outside, ordered_of, ahead_of, clip_over};
+ghost use Rattle.slabs.specs.Entry.{with_edge, IsLineCrossing, IsRayCrossing};
+ghost use Rattle.slabs.specs.Promise.{AnswerLaws};
 ghost use Rattle.slabs.specs.Inside.{within_of};
 
+mod crossing;
+
+pub use crossing::{Crossing, Edge};
 use types::Range;
 
 // The stretch of a line or a ray inside a box, by the parameters at which it enters and leaves. An enum of its own and no `Option`, so that a miss
@@ -36,38 +40,6 @@ impl Slab {
 }
 
 impl Interval {
-    // Every finite number, where a clip starts.
-    pub fn all_finite() -> Self
-        ensures { result ≡ all_finite_of }
-    {
-        Interval::Hit {
-            tmin: f32::MIN,
-            tmax: f32::MAX,
-        }
-    }
-
-    // What a slab leaves of an interval. A miss stays one.
-    pub fn narrowed(self, s: Slab) -> Self
-        ensures { result ≡ narrowed_of s self }
-    {
-        let Interval::Hit { tmin, tmax } = self else {
-            return Interval::Miss;
-        };
-        if s.direction != 0.0 {
-            // The second quotient stands in for a NaN in the first, so that one comparison orders them.
-            let t2 = (s.high - s.origin) / s.direction;
-            let t1 = float::number_or((s.low - s.origin) / s.direction, t2);
-            Interval::Hit {
-                tmin: float::max(tmin, float::lesser(t1, t2)),
-                tmax: float::min(tmax, float::greater(t1, t2)),
-            }
-        } else if s.is_outside() {
-            Interval::Miss
-        } else {
-            Interval::Hit { tmin, tmax }
-        }
-    }
-
     // The interval, or a miss where its ends are not in order.
     pub fn ordered(self) -> Self
         ensures { result ≡ ordered_of self }
@@ -81,41 +53,51 @@ impl Interval {
             Interval::Miss
         }
     }
-
-    // A ray's answer from its line's: the interval where it ends at 0 or later. Its start is not raised to 0. Written out as `ordered` is: one
-    // function of both would be handed `tmin` or 0, and its callers would take the interval apart for that.
-    pub fn ahead(self) -> Self
-        ensures { result ≡ ahead_of self }
-    {
-        let Interval::Hit { tmin, tmax } = self else {
-            return Interval::Miss;
-        };
-        if tmax >= 0.0 {
-            Interval::Hit { tmin, tmax }
-        } else {
-            Interval::Miss
-        }
-    }
 }
 
-// The stretch of a line inside the box whose dimensions the slabs are. The last clause is of any answers: what a miss means rules out every hit, and
-// more slabs leave no more of a line.
-pub fn clip<const N: usize>(slabs: &[Slab; N]) -> Interval
-    ensures answers { result ≡ clip_over slabs.now }
-    ensures means { IsLineAnswer slabs.now result }
+// What a line has of the box whose dimensions the slabs are: its last entry, its first exit, and the edge of that entry. The last clause is of any
+// answers: what a miss means rules out every hit, and more slabs leave no more of a line.
+pub fn clip<const N: usize>(slabs: &[Slab; N]) -> Crossing
+    ensures answers { result ≡ with_edge slabs.now (clip_over slabs.now) }
+    ensures means { IsLineCrossing slabs.now result }
     ensures laws { AnswerLaws }
 {
-    let mut interval = Interval::all_finite();
-    for s in slabs {
-        interval = interval.narrowed(*s);
+    let mut tmin = f32::MIN;
+    let mut tmax = f32::MAX;
+    let mut edge = Edge::None;
+    for (k, s) in slabs.iter().enumerate() {
+        if s.direction == 0.0 {
+            if s.is_outside() {
+                return Crossing::Miss;
+            }
+        } else {
+            let at_low = (s.low - s.origin) / s.direction;
+            let at_high = (s.high - s.origin) / s.direction;
+            // The second quotient stands in for a NaN in the first, so that one comparison orders them.
+            let first = float::number_or(at_low, at_high);
+            let entry = float::lesser(first, at_high);
+            let side = if at_low <= entry {
+                Edge::low(k)
+            } else {
+                Edge::high(k)
+            };
+            // Chosen in every turn: an `if` around this and the next line would jump on the data.
+            edge = if entry > tmin { side } else { edge };
+            tmin = float::greater(tmin, entry);
+            tmax = float::lesser(tmax, float::greater(first, at_high));
+        }
     }
-    interval.ordered()
+    if tmax >= tmin {
+        Crossing::Hit { tmin, tmax, edge }
+    } else {
+        Crossing::Miss
+    }
 }
 
-// The stretch of a ray: its line's where that ends at 0 or later.
-pub fn clip_ahead<const N: usize>(slabs: &[Slab; N]) -> Interval
-    ensures answers { result ≡ ahead_of (clip_over slabs.now) }
-    ensures means { IsRayAnswer slabs.now result }
+// What a ray has: its line's crossing where that ends at 0 or later.
+pub fn clip_ahead<const N: usize>(slabs: &[Slab; N]) -> Crossing
+    ensures answers { result ≡ with_edge slabs.now (ahead_of (clip_over slabs.now)) }
+    ensures means { IsRayCrossing slabs.now result }
 {
     clip(slabs).ahead()
 }

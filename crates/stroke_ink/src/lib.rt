@@ -40,13 +40,13 @@ fn length_over(p0: Vec2, p1: Vec2, i: Interval) -> f32
 }
 
 // The length in the box, by the clip of the stroke's line.
-#[tactic(auto, unfolding(crate::specs::Ink::drawn_of))]
+#[tactic(auto, using(slabs::proofs::Entry::without_edge), unfolding(crate::specs::Ink::drawn_of))]
 fn drawn(p0: Vec2, p1: Vec2, b: Aabb2) -> f32
     ensures { result ≡ drawn_of p0 p1 b }
 {
     let direction = p1 - p0;
     let inside = aabb::intersections_against_line(b, p0, direction);
-    length_over(p0, p1, bounded(inside))
+    length_over(p0, p1, bounded(inside.interval()))
 }
 
 // The ink that the stroke from p0 to p1 leaves in the box. A coordinate that offends is refused as in the walk, then a box that is not ordered

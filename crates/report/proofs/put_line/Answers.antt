@@ -16,4 +16,5 @@ returns-in-Hit c =
     (many _ _ c.put-in-Hit.ensures
     (many _ _ c.put_end.ensures
     (many _ _ c.put_end-in-Hit.ensures
-    c.put-in-Hit-2.ensures))))
+    (many _ _ c.put_edge.ensures
+    c.put-in-Hit-2.ensures)))))
