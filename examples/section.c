@@ -1,6 +1,7 @@
 /*
- * Clips a hatch list line by line, and one of its faces in one call, makes the bytes to save with a line corrected, and
- * merges both lists. Then lists the pixels of pen strokes and the tiles of a box, and shows two refusals.
+ * Clips a hatch list line by line, with the section marks of two lines, and one of its faces in one call, makes the
+ * bytes to save with a line corrected, and merges both lists. Then lists the pixels of pen strokes and the tiles of a
+ * box, and shows two refusals.
  *
  *   ./install PREFIX
  *   cc -std=c99 -IPREFIX/include examples/section.c -LPREFIX/lib -lbagnoszyk -o section
@@ -51,10 +52,15 @@ static bgz_interval_answer clip(struct line line) {
     return bgz_aabb_intersections_against_line(line.face, line.origin, line.direction);
 }
 
+/* The ends of a line in its box, and its section mark, which sits on the edge by which it comes in. */
 static void print_ends(const char *kind, struct line line) {
+    static const char *const EDGES[] = {
+        [BGZ_EDGE_LEFT] = "left", [BGZ_EDGE_RIGHT] = "right", [BGZ_EDGE_LOWER] = "lower", [BGZ_EDGE_UPPER] = "upper"};
     bgz_interval_answer hit = clip(line);
     bgz_vec2 from = point_at(line, hit.tmin), to = point_at(line, hit.tmax);
     printf("first %s line: (%.3f, %.3f) to (%.3f, %.3f)\n", kind, from.x, from.y, to.x, to.y);
+    if (hit.edge != BGZ_EDGE_NONE)
+        printf("its section mark: on the %s edge at (%.3f, %.3f)\n", EDGES[hit.edge], from.x, from.y);
 }
 
 static void print_list(const char *what, const uint32_t *list, size_t count) {

@@ -1,5 +1,5 @@
 /*
- * Bagnoszyk 0.3.1: geometry for patent drawings in f32, proved. The C interface, in C99 and C++11 and all later versions.
+ * Bagnoszyk 0.4.0: geometry for patent drawings in f32, proved. The C interface, in C99 and C++11 and all later versions.
  * Made from the Rattle sources by tests/generate. Licence: MIT, see NOTICE (installed under share/doc/bagnoszyk).
  *
  * Calls. Every routine takes any bits in every number, NaN and infinities among them, ends, and gives an answer, none, or
@@ -25,8 +25,9 @@
  * drop a NaN if the other is a number.
  *
  * Axes. x grows with the column and y with the row. A line rises where y grows with x, as in direction (1, 1), and falls
- * where it shrinks, as in direction (1, -1). On a screen with row 0 on top a line that rises so goes down to the right.
- * In space z is the third axis; where it points is the caller's.
+ * where it shrinks, as in direction (1, -1). The lower edge of a box is the one at min_y. On a screen with row 0 on top a
+ * line that rises so goes down to the right, and a lower edge is on top. In space z is the third axis; where it points is
+ * the caller's.
  *
  * Lists. A list is a pointer to its first entry and the number of its entries; where that number is 0 the pointer may be
  * null. A pointer must be aligned for its type; that many entries must be readable, and writable unless the pointer is to
@@ -47,13 +48,13 @@
 extern "C" {
 #endif
 
-#define BAGNOSZYK_VERSION "0.3.1"
+#define BAGNOSZYK_VERSION "0.4.0"
 
 /* ---- limits, and the floats of a line */
 
 #define BGZ_IMAGE_SIDE_MAX 16384         /* The longest side of an image in pixels, and of a sheet in tiles. */
 #define BGZ_LINE_FLOATS 4                /* The floats of a line in a list of lines. */
-#define BGZ_LINE_RESULT_FLOATS 3         /* The floats that a line gives in a list of results. */
+#define BGZ_LINE_RESULT_FLOATS 4         /* The floats that a line gives in a list of results. */
 #define BGZ_STROKE_COORDINATE_MAX 65536  /* The largest coordinate of a stroke's ends, in size. */
 #define BGZ_STROKE_ENTRIES_MAX 16385     /* Room for the entries of any stroke. */
 #define BGZ_TILE_COORDINATE_MAX 1048576  /* The largest coordinate of a box whose tiles are listed, in size. */
@@ -62,7 +63,7 @@ extern "C" {
 #define BGZ_HATCH_RECORDS_MAX 2000       /* The most records of a hatch list. */
 #define BGZ_HATCH_FLOATS_MAX 16000       /* Room for the floats of any hatch list. */
 #define BGZ_HATCH_BYTES_MAX 64007        /* The bytes of the longest hatch list. */
-#define BGZ_HATCH_REPORT_MAX 54014       /* Room for any report: none has more bytes. */
+#define BGZ_HATCH_REPORT_MAX 58014       /* Room for any report: none has more bytes. */
 
 /* ---- the status of an answer */
 
@@ -133,6 +134,19 @@ static inline const char *bgz_refusal_text(uint32_t status) {
         return "not a status of this library";
     }
 }
+
+/* ---- the edge by which a line comes in */
+
+/* Compare hit.edge == BGZ_EDGE_LEFT, or switch over (enum bgz_edge)hit.edge. Of a face it is (enum bgz_edge)(int)out[3]. */
+enum bgz_edge {
+    BGZ_EDGE_NONE = 0,   /* no edge: of a miss, or where the interval starts at the lowest finite number */
+    BGZ_EDGE_LEFT = 1,   /* the edge at min_x */
+    BGZ_EDGE_RIGHT = 2,  /* the edge at max_x */
+    BGZ_EDGE_LOWER = 3,  /* the edge at min_y */
+    BGZ_EDGE_UPPER = 4,  /* the edge at max_y */
+    BGZ_EDGE_NEAR = 5,   /* the face at min_z */
+    BGZ_EDGE_FAR = 6     /* the face at max_z */
+};
 
 /* ---- shapes, and other results of several numbers */
 
@@ -290,6 +304,7 @@ typedef struct bgz_interval_answer {
     uint32_t status;
     float tmin;       /* Where it begins. */
     float tmax;       /* Where it ends. */
+    uint32_t edge;    /* The edge by which the line comes in at tmin, or none, of enum bgz_edge. */
 } bgz_interval_answer;
 
 /* Columns from x0 up to and without x1, rows from y0 up to and without y1. */
@@ -610,29 +625,36 @@ bgz_count_answer bgz_edge2_pixels_bound(size_t width, size_t height, bgz_vec2 p0
  * rounding can turn a touched corner into a miss, and a narrow miss into a hit. t keeps its sign: a line may be in the
  * box only at negative t. It is held to the finite numbers, -3.4028235e38 to 3.4028235e38: where nothing bounds t these
  * two are the answer, and a line that is in the box only beyond them misses it. Where a component of direction is a
- * zero, that dimension only tests that origin is not outside. An edge whose t is a NaN drops out: that dimension has
- * the opposite edge's t alone. Where both drop out, as with a NaN in origin or direction, that dimension bounds
- * nothing. A box reversed in a dimension is taken as ordered there, unless that component of direction is a zero.
- * Example: (0, 0, 4, 2), (6, -1), (-1, 1) gives (2, 3).
+ * zero, that dimension has no t, and only tests that origin is not outside. An edge whose t is a NaN drops out: that
+ * dimension has the opposite edge's t alone. Where both drop out, as with a NaN in origin or direction, that dimension
+ * bounds nothing. A box reversed in a dimension is taken as ordered there, unless that component of direction is a
+ * zero. The edge is the one by which the line comes in: BGZ_EDGE_LEFT at min_x, BGZ_EDGE_RIGHT at max_x, BGZ_EDGE_LOWER
+ * at min_y or BGZ_EDGE_UPPER at max_y. It is BGZ_EDGE_NONE if tmin is -3.4028235e38. Else it is an edge of x if the
+ * smaller t of x equals tmin, and if not, one of y: the edge with that t, and where both have it, the one at min_x or
+ * min_y. In a box reversed in x the edge at min_x is on the side of the larger x. Where origin is far from the box,
+ * rounding can make two t equal, and so tell the edge at min_x for the one at max_x, or an edge of x for one of y.
+ * Example: (0, 0, 4, 2), (6, -1), (-1, 1) gives (2, 3, BGZ_EDGE_RIGHT).
  */
 bgz_interval_answer bgz_aabb_intersections_against_line(bgz_aabb2 b, bgz_vec2 origin, bgz_vec2 direction);
 
 /*
- * The line's answer if tmax >= 0, and else none. tmin is not raised to 0: it may be negative.
- * Example: (0, 0, 4, 2), (2, 1), (1, 0) gives (-2, 2).
+ * The line's answer, its edge too, if tmax >= 0, and else none. tmin is not raised to 0: it may be negative, and the
+ * edge then lies behind the origin.
+ * Example: (0, 0, 4, 2), (2, 1), (1, 0) gives (-2, 2, BGZ_EDGE_LEFT).
  */
 bgz_interval_answer bgz_aabb_intersections_against_ray(bgz_aabb2 b, bgz_vec2 origin, bgz_vec2 direction);
 
 /*
  * Every line of a list against the box b, a whole face in one call: each is answered as by
  * bgz_aabb_intersections_against_line, bit for bit. In lines a line is four floats, BGZ_LINE_FLOATS: x and y of its
- * origin, x and y of its direction. It gives three, BGZ_LINE_RESULT_FLOATS: 1, tmin and tmax for a hit, or 0, 0 and 0
- * for a miss; a hit may have the interval from 0 to 0 too. Both lengths count floats, not lines. There may be any
- * number of lines, none too.
- * Writes what the lines give, in their order, to the start of out and answers how many floats that is, three a line.
- * Refused: BGZ_REFUSED_LINES if the length of lines is not a multiple of 4; BGZ_REFUSED_ROOM if out has fewer than
- * three floats a line.
- * Example: (0, 0, 4, 2), [6, -1, -1, 1, 6, -1, 1, 1], [9; 8] gives 6 and leaves [1, 2, 3, 0, 0, 0, 9, 9].
+ * origin, x and y of its direction. It gives four, BGZ_LINE_RESULT_FLOATS: 1, tmin, tmax and the number of the edge for
+ * a hit, or 0, 0, 0 and 0 for a miss; a hit may have the interval from 0 to 0 too. The numbers are 0 for BGZ_EDGE_NONE,
+ * 1 for BGZ_EDGE_LEFT, 2 for BGZ_EDGE_RIGHT, 3 for BGZ_EDGE_LOWER and 4 for BGZ_EDGE_UPPER. Both lengths count floats,
+ * not lines. There may be any number of lines, none too.
+ * Writes what the lines give, in their order, to the start of out and answers how many floats that is, four a line.
+ * Refused: BGZ_REFUSED_LINES if the length of lines is not a multiple of 4; BGZ_REFUSED_ROOM if out has fewer than four
+ * floats a line.
+ * Example: (0, 0, 4, 2), [6, -1, -1, 1, 6, -1, 1, 1], [9; 10] gives 8 and leaves [1, 2, 3, 2, 0, 0, 0, 0, 9, 9].
  */
 bgz_count_answer bgz_aabb_intersections_against_lines(bgz_aabb2 b, const float *lines, size_t lines_length, float *out,
                                                       size_t out_length);
@@ -853,8 +875,9 @@ bool bgz_obb2_is_intersect_aabb2(bgz_obb2 o, bgz_aabb2 b);
  * The stretch of the line origin + t * direction in the box b, as bgz_aabb_intersections_against_line has it, with z
  * after x and y: from tmin to tmax, tmin <= tmax, both finite, faces included. None if the line misses b. Rounding can
  * turn a touched edge or corner into a miss, and a narrow miss into a hit. A line that is in the box only at t beyond
- * the finite numbers misses it.
- * Example: (0, 0, 0, 4, 2, 1), (6, -1, 0.5), (-1, 1, 0) gives (2, 3).
+ * the finite numbers misses it. The edge is a face of the box, told by the same rule with z after y: BGZ_EDGE_NEAR at
+ * min_z and BGZ_EDGE_FAR at max_z.
+ * Example: (0, 0, 0, 4, 2, 1), (6, -1, 0.5), (-1, 1, 0) gives (2, 3, BGZ_EDGE_RIGHT).
  */
 bgz_interval_answer bgz_aabb_3_intersections_against_line(bgz_aabb3 b, bgz_vec3 origin, bgz_vec3 direction);
 
@@ -871,9 +894,9 @@ bool bgz_aabb_3_is_include_point(bgz_aabb3 b, bgz_vec3 p);
 bgz_vec3 bgz_aabb_3_center(bgz_aabb3 b);
 
 /*
- * The answer of bgz_aabb_3_intersections_against_line if tmax >= 0, and else none. tmin is not raised to 0: it may be
- * negative.
- * Example: (0, 0, 0, 4, 2, 1), (2, 1, 0.5), (1, 0, 0) gives (-2, 2).
+ * The answer of bgz_aabb_3_intersections_against_line, its edge too, if tmax >= 0, and else none. tmin is not raised to
+ * 0: it may be negative.
+ * Example: (0, 0, 0, 4, 2, 1), (2, 1, 0.5), (1, 0, 0) gives (-2, 2, BGZ_EDGE_LEFT).
  */
 bgz_interval_answer bgz_aabb_3_intersections_against_ray(bgz_aabb3 b, bgz_vec3 origin, bgz_vec3 direction);
 
@@ -1115,9 +1138,10 @@ bgz_merge_answer bgz_hatch_merge(const void *first, size_t first_length, const v
  * The report on a hatch list, as text in ASCII. The first line is "HSL", version and count. Then each record has a line
  * of its own: its place from 1, and what bgz_aabb_intersections_against_line answers for its box, origin and direction:
  * "miss", or "hit" with tmin and tmax, each as the eight lower-case hexadecimal digits of its bits, any zero as
- * 00000000. Fields stand one space apart, and a line ends in a line feed. For bytes that are no hatch list the only
- * line is "refused", the number of the refusal of bgz_hatch_read_floats, and its byte. Bytes beyond the first
- * BGZ_HATCH_BYTES_MAX + 1 change nothing: they need not be handed over.
+ * 00000000, and the edge as a letter: l for BGZ_EDGE_LEFT, r for BGZ_EDGE_RIGHT, b for BGZ_EDGE_LOWER, t for
+ * BGZ_EDGE_UPPER, n for BGZ_EDGE_NONE. Fields stand one space apart, and a line ends in a line feed. For bytes that are
+ * no hatch list the only line is "refused", the number of the refusal of bgz_hatch_read_floats, and its byte. Bytes
+ * beyond the first BGZ_HATCH_BYTES_MAX + 1 change nothing: they need not be handed over.
  * Writes the text to the start of out, with no NUL after it, and answers its length in bytes. If out is shorter, it is
  * filled with the first bytes of the text, and the answer is still the whole length; BGZ_HATCH_REPORT_MAX are room for
  * any.

@@ -2,6 +2,7 @@
 //!
 //! Written by tests/generate from crates/c_answers/src/lib.rt and crates/c_hatch/src/answer.rt; not to be edited.
 
+use crate::edge::Edge;
 use crate::refusal::{Refusal, RefusalAt, RefusalIn};
 use crate::shapes::{Aabb2, Aabb3, Vec2, Vec3};
 
@@ -19,6 +20,8 @@ pub struct Interval {
     pub tmin: f32,
     /// Where it ends.
     pub tmax: f32,
+    /// The edge by which the line comes in at tmin, or none.
+    pub edge: Option<Edge>,
 }
 
 /// Columns from x0 up to and without x1, rows from y0 up to and without y1.
@@ -138,12 +141,17 @@ pub struct IntervalAnswer {
     pub tmin: f32,
     /// Where it ends.
     pub tmax: f32,
+    /// The edge by which the line comes in at tmin, or none.
+    pub edge: u32,
 }
 
 impl IntervalAnswer {
     #[inline]
     pub fn option(self) -> Option<Interval> {
-        option(self.status, Interval { tmin: self.tmin, tmax: self.tmax })
+        option(
+            self.status,
+            Interval { tmin: self.tmin, tmax: self.tmax, edge: Edge::from_number(self.edge) },
+        )
     }
 }
 

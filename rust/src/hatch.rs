@@ -259,11 +259,14 @@ pub fn merge(first: &[u8], second: &[u8], out: &mut [u8]) -> Result<usize, Refus
 /// each record has a line of its own: its place from 1, and what
 /// [`aabb::intersections_against_line`](crate::aabb::intersections_against_line) answers for its
 /// box, origin and direction: "miss", or "hit" with tmin and tmax, each as the eight lower-case
-/// hexadecimal digits of its bits, any zero as 00000000. Fields stand one space apart, and a line
-/// ends in a line feed. For bytes that are no hatch list the only line is "refused", the number of
-/// the refusal of [`hatch::read_floats`](crate::hatch::read_floats), and its byte. Bytes beyond the
-/// first [`HATCH_BYTES_MAX`](crate::limits::HATCH_BYTES_MAX) + 1 change nothing: they need not be
-/// handed over.
+/// hexadecimal digits of its bits, any zero as 00000000, and the edge as a letter: l for
+/// [`Edge::Left`](crate::Edge::Left), r for [`Edge::Right`](crate::Edge::Right), b for
+/// [`Edge::Lower`](crate::Edge::Lower), t for [`Edge::Upper`](crate::Edge::Upper), n for `None`.
+/// Fields stand one space apart, and a line ends in a line feed. For bytes that are no hatch list
+/// the only line is "refused", the number of the refusal of
+/// [`hatch::read_floats`](crate::hatch::read_floats), and its byte. Bytes beyond the first
+/// [`HATCH_BYTES_MAX`](crate::limits::HATCH_BYTES_MAX) + 1 change nothing: they need not be handed
+/// over.
 ///
 /// Writes the text to the start of `out`, with no NUL after it, and answers its length in bytes. If
 /// `out` is shorter, it is filled with the first bytes of the text, and the answer is still the

@@ -51,8 +51,8 @@
 //! # Axes
 //!
 //! x grows with the column and y with the row. A line rises where y grows with x, as in direction (1, 1), and falls where it shrinks, as in
-//! direction (1, -1). On a screen with row 0 on top a line that rises goes down to the right. In space z is the third axis; the caller decides
-//! where it points.
+//! direction (1, -1). The lower edge of a box is the one at min_y. On a screen with row 0 on top a line that rises goes down to the right, and
+//! a lower edge is on top. In space z is the third axis; the caller decides where it points.
 //!
 //! # Building
 //!
@@ -73,6 +73,7 @@ pub mod aabb3;
 pub mod aabb_3;
 #[doc(hidden)]
 pub mod answers;
+mod edge;
 pub mod edge2;
 pub mod f32;
 pub mod hatch;
@@ -87,6 +88,7 @@ pub mod vec2;
 mod view;
 
 pub use answers::{Interval, Pixels, Read};
+pub use edge::Edge;
 pub use refusal::{Refusal, RefusalAt, RefusalIn};
 pub use shapes::*;
 pub use view::{Boxes, Boxes3};

@@ -9,7 +9,7 @@ pub const IMAGE_SIDE_MAX: usize = 16_384;
 pub const LINE_FLOATS: usize = 4;
 
 /// The floats that a line gives in a list of results.
-pub const LINE_RESULT_FLOATS: usize = 3;
+pub const LINE_RESULT_FLOATS: usize = 4;
 
 /// The largest coordinate of a stroke's ends, in size.
 pub const STROKE_COORDINATE_MAX: f32 = 65_536.0;
@@ -36,4 +36,4 @@ pub const HATCH_FLOATS_MAX: usize = 16_000;
 pub const HATCH_BYTES_MAX: usize = 64_007;
 
 /// Room for any report: none has more bytes.
-pub const HATCH_REPORT_MAX: usize = 54_014;
+pub const HATCH_REPORT_MAX: usize = 58_014;

@@ -86,6 +86,21 @@ bool tells_rightly(const struct routine *routine, const struct answer *answer) {
     return answer->list <= count_read(routine) && (answer->list != 0 || answer->place == 0);
 }
 
+const char *edge_name(uint64_t number) {
+    static const char *const NAMES[] = {
+        [BGZ_EDGE_NONE] = "none",   [BGZ_EDGE_LEFT] = "left", [BGZ_EDGE_RIGHT] = "right", [BGZ_EDGE_LOWER] = "lower",
+        [BGZ_EDGE_UPPER] = "upper", [BGZ_EDGE_NEAR] = "near", [BGZ_EDGE_FAR] = "far",
+    };
+    return number < sizeof NAMES / sizeof NAMES[0] ? NAMES[number] : NULL;
+}
+
+bool tells_edges(const struct routine *routine, const struct answer *answer) {
+    for (size_t i = 0; routine->gives[i] != '\0'; i++)
+        if (routine->gives[i] == 'n' && edge_name(answer->values[i].u) == NULL)
+            return false;
+    return true;
+}
+
 size_t entries_written(const struct routine *routine, const struct answer *answer) {
     for (size_t i = 0; routine->gives[i] != '\0'; i++)
         if (routine->gives[i] == 'l' || routine->gives[i] == 'e')
@@ -149,7 +164,7 @@ struct reply ask(const struct routine *routine, const struct input *input) {
     const struct answer *answer = &reply.answer;
     bool answered = answer->status == BGZ_ANSWERED;
     reply.damaged = !answered && !is_empty(routine, answer);
-    reply.damaged |= !tells_rightly(routine, answer);
+    reply.damaged |= !tells_rightly(routine, answer) || !tells_edges(routine, answer);
     if (reply.list != NULL) {
         size_t written = answered ? entries_written(routine, answer) : 0;
         reply.damaged |= is_damaged(reply.list, size, written, in.lists[0].length);

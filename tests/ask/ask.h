@@ -24,7 +24,8 @@ struct reply {
     void *list;
     /*
      * The routine broke a rule of bagnoszyk.h: it told of more entries than there was room for, changed an entry that it
-     * should not have, gave a number beside a refusal or none, or told a list or a place wrongly.
+     * should not have, gave a number beside a refusal or none, told a list or a place wrongly, or told an edge that there
+     * is not.
      */
     bool damaged;
 };
@@ -55,6 +56,12 @@ bool tells_place(const struct routine *routine, uint32_t status);
  * read.
  */
 bool tells_rightly(const struct routine *routine, const struct answer *answer);
+
+/* The name of an edge by its number in enum bgz_edge, or null. */
+const char *edge_name(uint64_t number);
+
+/* Whether every edge that an answer tells has a name. */
+bool tells_edges(const struct routine *routine, const struct answer *answer);
 
 /* Whether a list is only read, and the bytes of one of its entries, by its letter. */
 bool is_read(char letter);

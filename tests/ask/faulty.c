@@ -124,9 +124,31 @@ static void one_more_byte(const struct arguments *in, struct answer *out) {
     out->values[0].u = 2;
 }
 
+static void far_edge(const struct arguments *in, struct answer *out) {
+    (void)in;
+    out->status = BGZ_ANSWERED;
+    out->values[0].u = BGZ_EDGE_FAR;
+}
+
+static void no_edge(const struct arguments *in, struct answer *out) {
+    far_edge(in, out);
+    out->values[0].u = BGZ_EDGE_NONE;
+}
+
+static void unknown_edge(const struct arguments *in, struct answer *out) {
+    far_edge(in, out);
+    out->values[0].u++;
+}
+
+static void edge_of_none(const struct arguments *in, struct answer *out) {
+    far_edge(in, out);
+    out->status = BGZ_NONE;
+}
+
 /* Refusal 3 tells a place, and of a routine that reads two lists also a list. */
 #define ROW_OF(name, letter) {#name, #name, name, "r", letter, "l", "room", UINT32_C(1) << 3, false}
 #define ROW(name) ROW_OF(name, "u")
+#define ROW_OF_EDGE(name) {#name, #name, name, "", "", "n", "", 0, false}
 #define ROW_OF_TWO(name) {#name, #name, name, "rBB", "bBB", "l", "room first second", UINT32_C(1) << 3, true}
 
 const struct routine routines[] = {
@@ -151,6 +173,10 @@ const struct routine routines[] = {
     ROW(changing),
     ROW_OF(two_bytes, "b"),
     ROW_OF(one_more_byte, "b"),
+    ROW_OF_EDGE(far_edge),
+    ROW_OF_EDGE(no_edge),
+    ROW_OF_EDGE(unknown_edge),
+    ROW_OF_EDGE(edge_of_none),
 };
 
 const size_t routine_count = sizeof routines / sizeof routines[0];

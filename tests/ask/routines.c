@@ -249,6 +249,7 @@ static void aabb_intersections_against_line(const struct arguments *in, struct a
     out->status = r.status;
     out->values[0].f = r.tmin;
     out->values[1].f = r.tmax;
+    out->values[2].u = r.edge;
 }
 
 static void aabb_intersections_against_ray(const struct arguments *in, struct answer *out) {
@@ -258,6 +259,7 @@ static void aabb_intersections_against_ray(const struct arguments *in, struct an
     out->status = r.status;
     out->values[0].f = r.tmin;
     out->values[1].f = r.tmax;
+    out->values[2].u = r.edge;
 }
 
 static void aabb_intersections_against_lines(const struct arguments *in, struct answer *out) {
@@ -527,6 +529,7 @@ static void aabb_3_intersections_against_line(const struct arguments *in, struct
     out->status = r.status;
     out->values[0].f = r.tmin;
     out->values[1].f = r.tmax;
+    out->values[2].u = r.edge;
 }
 
 static void aabb_3_is_include_point(const struct arguments *in, struct answer *out) {
@@ -552,6 +555,7 @@ static void aabb_3_intersections_against_ray(const struct arguments *in, struct 
     out->status = r.status;
     out->values[0].f = r.tmin;
     out->values[1].f = r.tmax;
+    out->values[2].u = r.edge;
 }
 
 static void aabb3_from_two_aabbs(const struct arguments *in, struct answer *out) {
@@ -884,9 +888,9 @@ const struct routine routines[] = {
      "width height p0.x p0.y p1.x p1.y room", AT(COORDINATE) | AT(NOT_FINITE), false},
     {"edge2.pixels_bound", CALL(edge2_pixels_bound), "uuffff", "", "u",
      "width height p0.x p0.y p1.x p1.y", AT(COORDINATE) | AT(NOT_FINITE), false},
-    {"aabb.line", CALL(aabb_intersections_against_line), "ffffffff", "", "ff",
+    {"aabb.line", CALL(aabb_intersections_against_line), "ffffffff", "", "ffn",
      "b.min_x b.min_y b.max_x b.max_y origin.x origin.y direction.x direction.y", 0, false},
-    {"aabb.ray", CALL(aabb_intersections_against_ray), "ffffffff", "", "ff",
+    {"aabb.ray", CALL(aabb_intersections_against_ray), "ffffffff", "", "ffn",
      "b.min_x b.min_y b.max_x b.max_y origin.x origin.y direction.x direction.y", 0, false},
     {"aabb.lines", CALL(aabb_intersections_against_lines), "ffffrF", "fF", "l",
      "b.min_x b.min_y b.max_x b.max_y room lines", 0, false},
@@ -944,13 +948,13 @@ const struct routine routines[] = {
      "a.cx a.cy a.ux a.uy a.vx a.vy b.cx b.cy b.ux b.uy b.vx b.vy", 0, false},
     {"obb2.is_intersect_aabb2", CALL(obb2_is_intersect_aabb2), "ffffffffff", "", "u",
      "o.cx o.cy o.ux o.uy o.vx o.vy b.min_x b.min_y b.max_x b.max_y", 0, false},
-    {"aabb_3.line", CALL(aabb_3_intersections_against_line), "ffffffffffff", "", "ff",
+    {"aabb_3.line", CALL(aabb_3_intersections_against_line), "ffffffffffff", "", "ffn",
      "b.min_x b.min_y b.min_z b.max_x b.max_y b.max_z origin.x origin.y origin.z direction.x direction.y direction.z", 0, false},
     {"aabb_3.include", CALL(aabb_3_is_include_point), "fffffffff", "", "u",
      "b.min_x b.min_y b.min_z b.max_x b.max_y b.max_z p.x p.y p.z", 0, false},
     {"aabb_3.center", CALL(aabb_3_center), "ffffff", "", "fff",
      "b.min_x b.min_y b.min_z b.max_x b.max_y b.max_z", 0, false},
-    {"aabb_3.ray", CALL(aabb_3_intersections_against_ray), "ffffffffffff", "", "ff",
+    {"aabb_3.ray", CALL(aabb_3_intersections_against_ray), "ffffffffffff", "", "ffn",
      "b.min_x b.min_y b.min_z b.max_x b.max_y b.max_z origin.x origin.y origin.z direction.x direction.y direction.z", 0, false},
     {"aabb3.from_two_aabbs", CALL(aabb3_from_two_aabbs), "ffffffffffff", "", "ffffff",
      "a.min_x a.min_y a.min_z a.max_x a.max_y a.max_z b.min_x b.min_y b.min_z b.max_x b.max_y b.max_z", 0, false},

@@ -57,8 +57,8 @@ struct routine {
      */
     const char *lists;
     /*
-     * What an answer has: f is a float, u a whole number, i one with a sign, l the count of entries that were written to
-     * the first list, e that of records there, eight entries each.
+     * What an answer has: f is a float, u a whole number, i one with a sign, n the number of an edge, l the count of
+     * entries that were written to the first list, e that of records there, eight entries each.
      */
     const char *gives;
     /* A name for each letter of `takes`, one space apart. */

@@ -272,6 +272,8 @@ static void write_value(FILE *out, char letter, union value value, bool decimal)
         write_float(out, value.f, decimal);
     else if (letter == 'i')
         fprintf(out, "%" PRId64, value.i);
+    else if (letter == 'n')
+        fputs(edge_name(value.u), out);
     else
         fprintf(out, "%" PRIu64, value.u);
 }

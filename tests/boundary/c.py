@@ -15,12 +15,18 @@ def type_name(t):
     return SCALARS.get(t) or "bgz_" + re.sub(r"(?<=[a-z0-9])(?=[A-Z])", "_", t).lower()
 
 
+def edge_name(edge):
+    return f"BGZ_EDGE_{edge.name.upper()}"
+
+
 def text_of(text, model):
-    """A comment's text: no backticks, and C's names for functions, refusals and limits."""
+    """A comment's text: no backticks, and C's names for functions, refusals, limits and edges."""
     for refusal in model.refusals:
         text = text.replace(f"`{refusal.name}`", f"BGZ_REFUSED_{refusal.name}")
     for limit, _, _ in LIMITS:
         text = text.replace(f"`{limit}`", f"BGZ_{limit}")
+    for edge in model.edges:
+        text = text.replace(edge.path, edge_name(edge))
     return re.sub(r"`(\w+)::(\w+)`", r"bgz_\1_\2", text).replace("`", "")
 
 
@@ -63,12 +69,16 @@ def function(f, model):
         yield line.replace("\xa0", " ")
 
 
+def field_comment(f):
+    return f"{f.comment.removesuffix('.')}, of enum bgz_edge." if f.is_edge else f.comment
+
+
 def struct(s, model):
     if s.comment.text:
         yield from comment(paragraphs(s.comment), model)
     name = type_name(s.name)
     yield f"typedef struct {name} {{"
-    rows = [(f"    {type_name(f.type.name)} {f.name};", f"/* {f.comment} */" if f.comment else "") for f in s.fields]
+    rows = [(f"    {type_name(f.type.name)} {f.name};", f"/* {field_comment(f)} */" if f.comment else "") for f in s.fields]
     yield from (line.rstrip() for line in in_columns(rows))
     yield f"}} {name};"
 
@@ -83,7 +93,7 @@ def statuses(model):
     """Each status: name, number, what it says."""
     yield "BGZ_ANSWERED", 0, "an answer: it stands in the other fields"
     for r in model.refusals:
-        yield f"BGZ_REFUSED_{r.name}", r.number, r.text[0].lower() + r.text[1:].removesuffix(".")
+        yield f"BGZ_REFUSED_{r.name}", r.number, phrase(r.text)
     yield "BGZ_NONE", 255, "no refusal, and none of what was asked for"
 
 
@@ -103,6 +113,19 @@ def status(model):
     yield '        return "not a status of this library";'
     yield "    }"
     yield "}"
+
+
+def phrase(text):
+    """A sentence as the comment beside a name."""
+    return text[0].lower() + text[1:].removesuffix(".")
+
+
+def edges(model):
+    yield "enum bgz_edge {"
+    last = model.edges[-1]
+    rows = [(f"    {edge_name(e)} = {e.number}{'' if e == last else ','}", f"/* {phrase(e.text)} */") for e in model.edges]
+    yield from in_columns(rows)
+    yield "};"
 
 
 def limits():
@@ -126,6 +149,7 @@ def header(model, version):
         "VERSION": version,
         "LIMITS": "\n".join(limits()),
         "STATUS": "\n".join(status(model)),
+        "EDGES": "\n".join(edges(model)),
         "SHAPES": "\n\n".join("\n".join(struct(s, model)) for s in shapes),
         "ANSWERS": "\n\n".join("\n".join(struct(s, model)) for s in answers),
         "FUNCTIONS": "\n".join(functions(model)).rstrip(),

@@ -1,7 +1,8 @@
 """An example in a comment, as Rust that runs as a test of the documentation.
 
 `Example: (0, 1), (3, 5) gives 2.` has an argument for each parameter. A shape is its numbers in parentheses, a list its entries in brackets, as
-`[1, 2]` or `[0; 8]`, or bytes in quotes. After `gives` stands the answer, or `none`; after `leaves` what the lent list or shape holds then.
+`[1, 2]` or `[0; 8]`, or bytes in quotes. After `gives` stands the answer, or `none`; after `leaves` what the lent list or shape holds then. An edge
+stands by its name, in backticks: `Edge::Left`.
 """
 
 import re
@@ -57,6 +58,14 @@ def listed(value, t):
     return f"[{', '.join(number(n, t) for n in value)}]"
 
 
+def field_value(field, value, model):
+    """The value of an answer's field: a number, or perhaps an edge."""
+    if not field.is_edge:
+        return number(value, field.type.name)
+    edge = next(e for e in model.edges if e.path == value)
+    return f"Some(Edge::{edge.name})" if edge.number else "None"
+
+
 def answer(f, value, model):
     """What the function's answer must equal."""
     kind, struct = model.kind(f), model.structs.get(f.result)
@@ -68,7 +77,7 @@ def answer(f, value, model):
     elif len(fields) == 1:
         text = literal(value, fields[0].type.name, model)
     else:
-        inner = ", ".join(f"{x.name}: {number(v, x.type.name)}" for x, v in zip(fields, value))
+        inner = ", ".join(f"{x.name}: {field_value(x, v, model)}" for x, v in zip(fields, value, strict=True))
         text = f"{struct.name.removesuffix('Answer')} {{ {inner} }}"
     text = f"Some({text})" if kind.none and value != "none" else text
     return f"Ok({text})" if kind.error else text
@@ -107,5 +116,5 @@ def code(f, model):
         lines.append(f"assert_eq!({lent.name}, {'*' * text.startswith('b')}{text});")
     words = set(re.findall(r"\w+", " ".join(lines)))
     answers = {s.name.removesuffix("Answer") for s in model.structs.values() if s.is_answer and len(s.answered) > 1}
-    named = sorted(words & (set(model.structs) | answers)) + [f.module]
+    named = sorted(words & (set(model.structs) | answers | {"Edge"})) + [f.module]
     return [f"use bagnoszyk::{named[0] if len(named) == 1 else '{' + ', '.join(named) + '}'};", "", *lines]

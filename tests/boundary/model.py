@@ -1,12 +1,12 @@
-"""What the Rattle sources export: functions, structs and refusals, each with the comment above it.
+"""What the Rattle sources export: functions, structs, refusals and the edges of a box, each with the comment above it.
 
 `read()` gives them in the order in which the header declares them: modules as crates.txt lists their crates, functions as written. A form
 that this module does not read is an error, so nothing that is exported can be left out.
 
-A comment is text, in which code stands in backticks, a refusal or a limit by its name, as `ROOM`, and a function as `module::name`. Four
-kinds of paragraphs begin with a word of their own and stand last: `Writes` what is left in lent lists, `Refused: ` the conditions in the
-order in which they are tested, `Place: ` what the refusals that it names tell beside their numbers, a place or a list and a place in it,
-`Example: ` arguments and what they give.
+A comment is text, in which code stands in backticks, a refusal or a limit by its name, as `ROOM`, an edge as `Edge::Left`, and a function
+as `module::name`. Four kinds of paragraphs begin with a word of their own and stand last: `Writes` what is left in lent lists, `Refused: `
+the conditions in the order in which they are tested, `Place: ` what the refusals that it names tell beside their numbers, a place or a
+list and a place in it, `Example: ` arguments and what they give.
 """
 
 import dataclasses
@@ -62,6 +62,11 @@ class Named:
     type: Type
     comment: str = ""
 
+    @property
+    def is_edge(self):
+        """Whether it is the number of an edge."""
+        return (self.name, self.type.name) == ("edge", "u32")
+
 
 @dataclasses.dataclass(frozen=True)
 class Struct:
@@ -115,6 +120,20 @@ class Refusal:
 
 
 @dataclasses.dataclass(frozen=True)
+class Edge:
+    """An edge by which a line comes in; the one with number 0 is none."""
+
+    name: str  # as the sources have it, `Left`
+    number: int
+    text: str
+
+    @property
+    def path(self):
+        """As comments have it."""
+        return f"`Edge::{self.name}`"
+
+
+@dataclasses.dataclass(frozen=True)
 class Enum:
     """What an answer can be beside what was asked for: none of it, or an error."""
 
@@ -131,6 +150,7 @@ class Model:
     functions: tuple
     structs: dict
     refusals: tuple
+    edges: tuple
     enums: dict
     modules: dict  # the comment on each
 
@@ -197,12 +217,20 @@ def enums_of(definitions):
         error = answer.split()[-1] if "Result" in answer else ""
         if error and error not in ERRORS:
             sys.exit(f"boundary: {name} is of an error that is not read: {error}")
-        yield name, Enum("Option" in answer or answer == "Interval", error)
+        yield name, Enum("Option" in answer or answer == "Crossing", error)
 
 
 def refusals_of(source):
     for text, name, number in re.findall(r'^    #\[error\("(.*)"\)\]\n    (\w+) = (\d+),$', source, re.M):
         yield Refusal(re.sub(r"(?<=[a-z])(?=[A-Z])", "_", name).upper(), int(number), f"{text[0].upper()}{text[1:]}.")
+
+
+def edges_of(text):
+    found = re.search(r"^pub enum Edge \{\n(.*?)^\}", text, re.M | re.S)[1]
+    edges = [Edge(name, int(number), text) for text, name, number in re.findall(r"^    // (.*)\n    (\w+) = (\d+),$", found, re.M)]
+    if len(edges) != found.count(",\n") or [e.number for e in edges] != list(range(len(edges))):
+        sys.exit("boundary: an edge has a form that is not read, or the edges are not numbered from 0 on")
+    return edges
 
 
 def read(library=None):
@@ -227,8 +255,9 @@ def read(library=None):
         for spec in library.specs(crate):
             enums.update(enums_of(spec.text))
     refusals = tuple(refusals_of((library.root / "crates/types/src/refusal.rt").read_text()))
+    edges = tuple(edges_of((library.root / "crates/slabs/src/crossing.rt").read_text()))
     structs.sort(key=lambda s: s.is_answer)
-    model = Model(tuple(functions), {s.name: s for s in structs}, refusals, enums, modules)
+    model = Model(tuple(functions), {s.name: s for s in structs}, refusals, edges, enums, modules)
     for function in functions:
         told, struct = model.kind(function).told, model.structs.get(function.result)
         if bool(model.places(function)) != bool(told):

@@ -25,8 +25,9 @@ NAMES = {
 }
 # What a request has first that the function does not take, name and type: the box that the Rust's routine overwrites unread.
 UNREAD = {"bgz_aabb3_set_as_cube": ("b", "Aabb3")}
-# The letters of struct routine: a number that is none of these is a whole number; a list by its entries and whether it is written.
+# The letters of struct routine: a number that is none of these is a whole number or an edge's; a list by its entries and whether it is written.
 NUMBERS = {"f32": "f", "i32": "i"}
+EDGE = "n"
 LISTS = {
     ("u32", True): "u",
     ("f32", True): "f",
@@ -85,7 +86,9 @@ class Call:
         handed = {p.name: self.hand(p) for p in sorted(function.parameters, key=is_read_list)}
         self.arguments = [handed[p.name] for p in function.parameters]
         if not self.lent:
-            answered = [(f"r{path}", letter_of(t)) for path, t in model.scalars(function.result)]
+            struct = model.structs.get(function.result)
+            edges = [f".{field.name}" for field in struct.fields if field.is_edge] if struct else []
+            answered = [(f"r{path}", EDGE if path in edges else letter_of(t)) for path, t in model.scalars(function.result)]
             paths = [path for path, _ in answered]
             self.has_status, self.told = "r.status" in paths, [field for field in TOLD if f"r.{field}" in paths]
             self.values = [(path, letter) for path, letter in answered if path.removeprefix("r.") not in ("status", *TOLD)]
@@ -163,7 +166,7 @@ class Call:
             for field in self.told:
                 yield f"out->{field} = r.{field};"
         for i, (path, letter) in enumerate(self.values):
-            yield f"out->values[{i}].{letter} = {path};"
+            yield f"out->values[{i}].{'u' if letter == EDGE else letter} = {path};"
 
     def code(self):
         """The function that calls it. A call too long for a line has its arguments on the next."""

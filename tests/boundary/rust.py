@@ -5,7 +5,7 @@ import re
 import example
 from model import ERRORS
 from rust_text import answer_name, comment, conversion, converted, origin, signature, takes_places, value_type
-from rust_types import answers_file, limits_file, refusal_file, shapes_file
+from rust_types import answers_file, edge_file, limits_file, refusal_file, shapes_file
 
 
 def documentation(f, model, indent=0):
@@ -136,7 +136,7 @@ def module_file(module, model):
 
 def files(model):
     """Each file's name and text."""
-    made = {"shapes": shapes_file, "answers": answers_file, "refusal": refusal_file, "limits": limits_file}
+    made = {"shapes": shapes_file, "answers": answers_file, "edge": edge_file, "refusal": refusal_file, "limits": limits_file}
     for name, lines in made.items():
         yield f"{name}.rs", "\n".join(lines(model)) + "\n"
     for module in model.modules:

@@ -13,11 +13,13 @@ def origin(path):
 
 
 def text_of(text, model):
-    """A comment's text, with links to functions, refusals and limits."""
+    """A comment's text, with links to functions, refusals, limits and edges."""
     for refusal in model.refusals:
         text = text.replace(f"`{refusal.name}`", f"[`Refusal::{refusal.name}`]")
     for limit, _, _ in LIMITS:
         text = text.replace(f"`{limit}`", f"[`{limit}`](crate::limits::{limit})")
+    for edge in model.edges:
+        text = text.replace(edge.path, f"[`Edge::{edge.name}`](crate::Edge::{edge.name})" if edge.number else "`None`")
     return re.sub(r"`([a-z]\w*::\w+)`", r"[`\1`](crate::\1)", text)
 
 

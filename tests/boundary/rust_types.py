@@ -1,4 +1,4 @@
-"""The Rust wrapper's types: shapes, answers, refusals and limits."""
+"""The Rust wrapper's types: shapes, answers, edges, refusals and limits."""
 
 import re
 import textwrap
@@ -8,13 +8,14 @@ from model import ERRORS
 from rust_text import WIDTH, answer_name, comment, conversion, converted, origin, signature, takes_places, value_type
 
 
-def struct(name, fields, above):
+def struct(name, fields, above, edge="u32"):
+    """A struct, in which an edge has this type."""
     yield from above
     yield f"pub struct {name} {{"
     for field in fields:
         if field.comment:
             yield f"    /// {field.comment}"
-        yield f"    pub {field.name}: {field.type.name},"
+        yield f"    pub {field.name}: {edge if field.is_edge else field.type.name},"
     yield "}"
 
 
@@ -86,7 +87,7 @@ def shapes_file(model):
 def methods(s, model):
     """What the routines that give this answer make of it."""
     fields = s.answered
-    inner = ", ".join(f"{x.name}: self.{x.name}" for x in fields)
+    inner = ", ".join(f"{x.name}: {f'Edge::from_number(self.{x.name})' if x.is_edge else f'self.{x.name}'}" for x in fields)
     value = f"self.{fields[0].name}" if len(fields) == 1 else f"{answer_name(s)} {{ {inner} }}"
     kinds = {conversion(model.kind(f)): model.kind(f) for f in model.functions if f.result == s.name}
     yield f"impl {s.name} {{"
@@ -145,6 +146,7 @@ def answers_file(model):
     yield "//!"
     yield from origin("crates/c_answers/src/lib.rt and crates/c_hatch/src/answer.rt")
     yield ""
+    yield "use crate::edge::Edge;"
     yield f"use crate::refusal::{{{', '.join(ERRORS)}}};"
     answers = [s for s in model.structs.values() if s.is_answer]
     shapes = sorted({f.type.name for s in answers for f in s.fields} & set(model.structs))
@@ -160,7 +162,7 @@ def answers_file(model):
             floats = any(t == "f32" for _, t in model.scalars(s.name))
             derived = f"#[derive(Clone, Copy, Debug, PartialEq{'' if floats else ', Eq'})]"
             yield ""
-            yield from struct(answer_name(s), s.answered, [*about(s, model), derived])
+            yield from struct(answer_name(s), s.answered, [*about(s, model), derived], "Option<Edge>")
     for s in answers:
         yield ""
         yield from struct(s.name, s.fields, ["#[repr(C)]"])
@@ -169,7 +171,45 @@ def answers_file(model):
     yield CONVERSIONS
 
 
-# ---- refusals and limits
+# ---- edges, refusals and limits
+
+
+EDGE = """\
+/// An edge of a box, or in space a face of one, by which a line comes in.
+#[derive(Clone, Copy, Debug, PartialEq, Eq, Hash)]
+pub enum Edge {
+@VARIANTS@
+}
+
+impl Edge {
+    /// The number of the edge, as C has it.
+    #[inline]
+    pub const fn number(self) -> u32 {
+        self as u32
+    }
+
+    /// The edge with this number, and `None` for any other number. In the results of a whole face it
+    /// is the fourth float of a line: `Edge::from_number(result[3] as u32)`.
+    #[inline]
+    pub const fn from_number(number: u32) -> Option<Edge> {
+        match number {
+@ARMS@
+            _ => None,
+        }
+    }
+}"""
+
+
+def edge_file(model):
+    edges = [e for e in model.edges if e.number]
+    variants = [line for e in edges for line in (f"    /// {e.text}", f"    {e.name} = {e.number},")]
+    arms = [f"            {e.number} => Some(Edge::{e.name})," for e in edges]
+    yield "//! Edges."
+    yield "//!"
+    yield from origin("crates/slabs/src/crossing.rt")
+    yield ""
+    yield EDGE.replace("@VARIANTS@", "\n".join(variants)).replace("@ARMS@", "\n".join(arms))
+
 
 
 REFUSAL = """\

@@ -116,6 +116,7 @@ static void look(const struct caller *caller, const struct answer *out) {
     hold(caller, out->status <= last_refusal || out->status == BGZ_NONE, "a status that the header does not have");
     hold(caller, out->status == BGZ_ANSWERED || is_empty(routine, out), "a refusal with an answer");
     hold(caller, tells_rightly(routine, out), "a list or a place told wrongly");
+    hold(caller, tells_edges(routine, out), "an edge that there is not");
     for (size_t i = 0; routine->lists[i] != '\0'; i++) {
         const struct list *list = &caller->in.lists[i];
         size_t bytes = bytes_of(caller, i);

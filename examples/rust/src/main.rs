@@ -1,5 +1,6 @@
-//! Clips a hatch list line by line, and one of its faces in one call, makes the bytes to save with a line corrected, and
-//! merges both lists. Then lists the pixels of pen strokes and the tiles of a box, and shows two refusals.
+//! Clips a hatch list line by line, with the section marks of two lines, and one of its faces in one call, makes the
+//! bytes to save with a line corrected, and merges both lists. Then lists the pixels of pen strokes and the tiles of a
+//! box, and shows two refusals.
 //!
 //! ```text
 //! ./install PREFIX
@@ -13,7 +14,7 @@ use bagnoszyk::limits::{
     HATCH_BYTES_MAX, HATCH_FLOATS_MAX, HATCH_RECORD_FLOATS as RECORD, LINE_FLOATS,
     LINE_RESULT_FLOATS,
 };
-use bagnoszyk::{Aabb2, Interval, Refusal, RefusalAt, Vec2, aabb, aabb2, edge2, hatch};
+use bagnoszyk::{Aabb2, Edge, Interval, Refusal, RefusalAt, Vec2, aabb, aabb2, edge2, hatch};
 use std::process::ExitCode;
 use std::{env, fs};
 
@@ -59,14 +60,22 @@ impl Line {
     }
 }
 
-/// Prints the ends of the first of these lines that does more than touch its box.
+/// An edge of a box in words.
+fn named(edge: Edge) -> String {
+    format!("{edge:?}").to_lowercase()
+}
+
+/// Prints the ends of the first of these lines that does more than touch its box, and its section mark, which sits on the edge by which it
+/// comes in.
 fn print_first(kind: &str, lines: &[&Line]) {
     let found = lines.iter().find_map(|line| {
-        let Interval { tmin, tmax } = line.clip()?;
-        (tmin < tmax).then(|| (line.point_at(tmin), line.point_at(tmax)))
+        let Interval { tmin, tmax, edge } = line.clip()?;
+        (tmin < tmax).then(|| (line.point_at(tmin), line.point_at(tmax), edge))
     });
-    if let Some((from, to)) = found {
-        println!("first {kind} line: ({:.3}, {:.3}) to ({:.3}, {:.3})", from.x, from.y, to.x, to.y);
+    let Some((from, to, edge)) = found else { return };
+    println!("first {kind} line: ({:.3}, {:.3}) to ({:.3}, {:.3})", from.x, from.y, to.x, to.y);
+    if let Some(edge) = edge {
+        println!("its section mark: on the {} edge at ({:.3}, {:.3})", named(edge), from.x, from.y);
     }
 }
 
