@@ -84,6 +84,14 @@ impl From<(f32, u32)> for Answer {
     }
 }
 
+impl From<(f32, f32, u32)> for Answer {
+    fn from((x, y, n): (f32, f32, u32)) -> Self {
+        let mut answer = Answer::from([x, y]);
+        answer.push(n.into());
+        answer
+    }
+}
+
 impl<const N: usize> From<[u64; N]> for Answer {
     fn from(numbers: [u64; N]) -> Self {
         let mut answer = Answer::default();

@@ -1,7 +1,8 @@
-//! The run of the gate: the figures, random inputs for each routine, the places of refusals, strokes along margins, every exact root, hatch lists
-//! written and read, merged, and reported on, and the tiles by brute force.
+//! The run of the gate: the figures, random inputs for each routine, the places of refusals, strokes along margins, every exact root, the edges by
+//! which lines come in, hatch lists written and read, merged, and reported on, and the tiles by brute force.
 
 use crate::cover;
+use crate::entries;
 use crate::figures;
 use crate::hatch;
 use crate::inputs::Inputs;
@@ -33,6 +34,7 @@ pub fn run(options: &Options) -> Result<(), String> {
         places::run()?;
         margins::run(options.seed, count / 10)?;
         squares::run()?;
+        entries::run(options.seed, count)?;
         saved::run(options.seed, count)?;
         merges::run(options.seed)?;
         hatch::run(options.seed, count)?;

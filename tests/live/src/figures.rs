@@ -37,9 +37,15 @@ fn twins(figure: &Figure) -> Result<Vec<Figure>, String> {
         let mut twin = args.clone();
         mirror(pair.row.shape, axis, &mut twin.floats);
         let answer = match pair.row.name {
-            // Lines and their box are mirrored: the parameters of their ends stay, and so does the ink of a stroke.
-            "aabb.line" | "aabb.lines" | "aabb.ray" | "aabb_3.line" | "aabb_3.ray"
-            | "edge2.ink" => figure.answer.clone(),
+            // Lines and their box are mirrored: the parameters of their ends stay. The edge may be the opposite one, and is told anew.
+            "aabb.line" | "aabb.lines" | "aabb.ray" | "aabb_3.line" | "aabb_3.ray" => {
+                let answer = pair.rust_line(&twin)?;
+                if edge_aside(&answer) != edge_aside(&figure.answer) {
+                    return Err(format!("{}: a twin has {answer}", figure.request));
+                }
+                answer
+            }
+            "edge2.ink" => figure.answer.clone(),
             // A stroke is mirrored within its own bounding box, and its entries are others: they are taken from the Rust.
             "edge2.overlapping_pixels_dda" | "edge2.pixels_inside" | "edge2.pixels_bound" => {
                 pair.rust_line(&twin)?
@@ -49,6 +55,13 @@ fn twins(figure: &Figure) -> Result<Vec<Figure>, String> {
         twins.push(Figure { request: pair.routine.request(&twin), answer });
     }
     Ok(twins)
+}
+
+/// An answer without its edges: a hit's is the third word, and a face's is the fourth of each four after the count.
+fn edge_aside(answer: &str) -> Vec<&str> {
+    let words: Vec<_> = answer.split(' ').collect();
+    let is_edge = |at: usize| if words.len() == 3 { at == 2 } else { at > 0 && at % 4 == 0 };
+    (0..words.len()).filter(|at| !is_edge(*at)).map(|at| words[at]).collect()
 }
 
 /// How many figures there are, or the first that the Rust or the library answers otherwise.

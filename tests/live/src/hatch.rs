@@ -1,5 +1,7 @@
-//! Reports on hatch lists, good and damaged: the library's against one put together here, with a plain reader and the Rust's clip.
+//! Reports on hatch lists, good and damaged: the library's against one put together here, with a plain reader, the Rust's clip and the edge of
+//! `edge`.
 
+use crate::edge;
 use crate::inputs::Inputs;
 use crate::pairs;
 use crate::random::Random;
@@ -34,6 +36,9 @@ pub fn compare(file: &[u8], page: usize) -> Result<(), String> {
     Err(format!("the report on {file:02x?} with room for {page} bytes differs"))
 }
 
+/// The letters of the edges, by their numbers: none, left, right, lower, upper.
+const LETTERS: [char; 5] = ['n', 'l', 'r', 'b', 't'];
+
 /// The report of docs/FORMAT.md, with the Rust's clip.
 fn report(read: Result<Records, Refused>) -> String {
     let records = match read {
@@ -43,11 +48,12 @@ fn report(read: Result<Records, Refused>) -> String {
     let mut text = format!("HSL {} {}\n", records.version, records.count);
     for (k, record) in records.floats.as_chunks::<8>().0.iter().enumerate() {
         let [x0, y0, x1, y1, x, y, dx, dy] = record.map(f32::from_le_bytes);
-        let hit =
-            aabb::intersections_against_line::<f32, 2, 4>(&[x0, y0, x1, y1], &[x, y], &[dx, dy]);
-        match hit {
-            Some((tmin, tmax)) => {
-                writeln!(text, "{} hit {:08x} {:08x}", k + 1, shown(tmin), shown(tmax)).unwrap();
+        let (b, origin, direction) = ([x0, y0, x1, y1], [x, y], [dx, dy]);
+        let hit = aabb::intersections_against_line::<f32, 2, 4>(&b, &origin, &direction);
+        match edge::told(hit, &b, &origin, &direction) {
+            Some((tmin, tmax, edge)) => {
+                let (tmin, tmax, letter) = (shown(tmin), shown(tmax), LETTERS[edge as usize]);
+                writeln!(text, "{} hit {tmin:08x} {tmax:08x} {letter}", k + 1).unwrap();
             }
             None => writeln!(text, "{} miss", k + 1).unwrap(),
         }

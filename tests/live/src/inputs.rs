@@ -6,6 +6,7 @@ mod floats;
 mod kinds;
 mod make;
 mod merge;
+mod slabs;
 mod source;
 mod touch;
 mod wholes;
@@ -13,6 +14,7 @@ mod wholes;
 pub use file::{damage, hatch_list};
 pub use kinds::{Kind, axes, mirror};
 pub use merge::{Record, others};
+pub use slabs::{Slab, floats, slabs};
 
 use crate::ask::Args;
 use crate::judge::Row;

@@ -5,6 +5,8 @@ mod answer;
 mod ask;
 mod compare;
 mod cover;
+mod edge;
+mod entries;
 mod figures;
 mod hatch;
 mod inputs;
@@ -26,7 +28,7 @@ use std::process::ExitCode;
 
 const USAGE: &str = "usage: tests/compare MODE [--seed S] [--count N] [--only PREFIX]
   compare  compare the library with the Rust on the figures and on random inputs for each routine; without --only also on the places of refusals,
-           strokes along margins, every exact root, hatch lists, and tiles by brute force
+           strokes along margins, every exact root, entries, hatch lists, and tiles by brute force
   all      compare the library with the Rust on all 4294967296 inputs of each routine of one float
   cover    compare the tiles listed with their definition, by brute force on small sheets
   vectors  print requests with the Rust's answers: the figures, and 100 for each routine

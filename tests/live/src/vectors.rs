@@ -1,5 +1,5 @@
-//! Prints requests with the Rust's answers, for tests/replay, which needs no Rust: `f32.floor c0200000 = c0400000`.
-//! The figures with known results come first.
+//! Prints requests with the Rust's answers, for tests/replay, which needs no Rust: `f32.floor c0200000 = c0400000`. The Rust tells no edge: a hit has
+//! that of edge.rs. The figures with known results come first.
 
 use crate::figures;
 use crate::inputs::{Inputs, Kind};

@@ -106,7 +106,7 @@ fn add_wholes(kind: Kind, floats: &[f32], random: &mut Random, numbers: &mut Vec
         Kind::Side => numbers.push(side(random)),
         Kind::Index => numbers.push(wholes::any(6, random)),
         Kind::Corner => numbers.push(wholes::any(10, random)),
-        Kind::Lines => numbers.push(room_for(floats.len() as u64 / 4 * 3, random)),
+        Kind::Lines => numbers.push(room_for(4 * (floats.len() as u64 / 4), random)),
         Kind::Stroke => numbers.extend([side(random), side(random), room(random)]),
         Kind::Ends => numbers.extend([side(random), side(random)]),
         Kind::Tiles => {
@@ -127,7 +127,7 @@ fn room(random: &mut Random) -> u64 {
 fn room_for(entries: u64, random: &mut Random) -> u64 {
     match random.below(8) {
         0 => entries.saturating_sub(1),
-        1 => entries.saturating_sub(3),
+        1 => entries.saturating_sub(4),
         2 | 3 => entries + random.below(5),
         4 => entries + wholes::any(64, random).min(20_000),
         _ => entries,

@@ -32,11 +32,12 @@ pub extern "C" fn intersections_against_line3(
     interval(aabb::intersections_against_line::<f32, 3, 6>(&b, &origin, &direction))
 }
 
+/// The Rust tells no edge.
 #[inline(always)]
 fn interval(hit: Option<(f32, f32)>) -> IntervalAnswer {
     match hit {
-        Some((tmin, tmax)) => IntervalAnswer { status: ANSWERED, tmin, tmax },
-        None => IntervalAnswer { status: NONE, tmin: 0.0, tmax: 0.0 },
+        Some((tmin, tmax)) => IntervalAnswer { status: ANSWERED, tmin, tmax, edge: 0 },
+        None => IntervalAnswer { status: NONE, tmin: 0.0, tmax: 0.0, edge: 0 },
     }
 }
 
@@ -59,7 +60,7 @@ pub unsafe extern "C" fn intersections_against_lines(
     let (places, _) = out.as_chunks_mut::<LINE_RESULT_FLOATS>();
     for (&[x, y, dx, dy], place) in lines.iter().zip(places) {
         *place = match aabb::intersections_against_line::<f32, 2, 4>(&b, &[x, y], &[dx, dy]) {
-            Some((tmin, tmax)) => [1.0, tmin, tmax],
+            Some((tmin, tmax)) => [1.0, tmin, tmax, 0.0],
             None => [0.0; LINE_RESULT_FLOATS],
         };
     }

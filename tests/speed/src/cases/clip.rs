@@ -1,10 +1,11 @@
-//! Hatch lines against one box: a face hatched crosswise, in drawing order; and lines of all kinds, in random order.
+//! Hatch lines against one box: a face hatched crosswise, in drawing order; and lines of all kinds, in random order. The Rust tells no edge, so the
+//! answers compared are the intervals' ends.
 
 use super::calls;
 use crate::measure::Case;
 use crate::random::{Random, point};
-use bagnoszyk::aabb;
 use bagnoszyk::shapes::{Aabb2, Vec2};
+use bagnoszyk::{Interval, aabb};
 
 pub const FACE: Aabb2 = Aabb2 { min_x: 0.0, min_y: 0.0, max_x: 120.0, max_y: 80.0 };
 
@@ -31,11 +32,15 @@ fn clip(name: &str, lines: Vec<Line>) -> Case {
     calls(
         name,
         lines,
-        |&(origin, direction)| aabb::intersections_against_line(FACE, origin, direction),
+        |&(origin, direction)| aabb::intersections_against_line(FACE, origin, direction).map(ends),
         |&(origin, direction)| {
-            rust_abi::intersections_against_line(FACE, origin, direction).option()
+            rust_abi::intersections_against_line(FACE, origin, direction).option().map(ends)
         },
     )
+}
+
+pub fn ends(t: Interval) -> [f32; 2] {
+    [t.tmin, t.tmax]
 }
 
 /// Line k of so many at 45 degrees, each rising one followed by its falling twin. They are spaced evenly over the face, and the first and the

@@ -1,4 +1,5 @@
-//! A whole face in one call. The Rust has no such routine: its routine for a line is called for each, or inlined in a loop.
+//! A whole face in one call. The Rust has no such routine: its routine for a line is called for each, or inlined in a loop. It tells no edge, so the
+//! fourth float of a line is 0 there.
 
 use super::clip::{FACE, Line, hatch, of_all_kinds};
 use super::{Sized, calls};
@@ -36,10 +37,12 @@ fn face(name: &str, lines: &[Line], rust: fn(&Face) -> usize) -> Case {
         lines.iter().map(|(origin, direction)| [origin.x, origin.y, direction.x, direction.y]);
     let face = (floats.collect(), RefCell::new(vec![0.0; LINE_RESULT_FLOATS * lines.len()]));
     let results = |call: fn(&Face) -> usize| {
-        // A NaN equals nothing, so an entry that is not written makes the lists differ.
+        // A NaN equals nothing, so an entry that is not written makes the lists differ. The edges are left out.
         face.1.borrow_mut().fill(f32::NAN);
         call(&face);
-        face.1.borrow().clone()
+        let results = face.1.borrow();
+        let (places, _) = results.as_chunks::<LINE_RESULT_FLOATS>();
+        places.iter().map(|&[hit, tmin, tmax, _]| [hit, tmin, tmax]).collect::<Vec<_>>()
     };
     assert_eq!(results(library), results(rust), "{name}");
     let case = calls(name, vec![face], library, rust);
@@ -57,7 +60,7 @@ fn called((lines, results): &Face) -> usize {
     for (&[x, y, dx, dy], place) in lines.iter().zip(places) {
         let (origin, direction) = (Vec2 { x, y }, Vec2 { x: dx, y: dy });
         *place = match rust_abi::intersections_against_line(FACE, origin, direction).option() {
-            Some(Interval { tmin, tmax }) => [1.0, tmin, tmax],
+            Some(Interval { tmin, tmax, .. }) => [1.0, tmin, tmax, 0.0],
             None => [0.0; LINE_RESULT_FLOATS],
         };
     }

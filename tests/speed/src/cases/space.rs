@@ -1,6 +1,7 @@
 //! Solid boxes: lines of all kinds against one, in random order; and turned ones, do they overlap?
 
 use super::calls;
+use super::clip::ends;
 use crate::measure::Case;
 use crate::random::{Random, point3};
 use bagnoszyk::shapes::{Aabb3, Obb3, Vec3};
@@ -22,9 +23,11 @@ fn clip() -> Case {
     calls(
         "clip in space: 3,000 lines of all kinds",
         (0..LINES).map(|_| line(&mut random)).collect(),
-        |&(origin, direction)| aabb_3::intersections_against_line(SOLID, origin, direction),
         |&(origin, direction)| {
-            rust_abi::intersections_against_line3(SOLID, origin, direction).option()
+            aabb_3::intersections_against_line(SOLID, origin, direction).map(ends)
+        },
+        |&(origin, direction)| {
+            rust_abi::intersections_against_line3(SOLID, origin, direction).option().map(ends)
         },
     )
     .goal(1.0)
