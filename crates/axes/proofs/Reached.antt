@@ -13,25 +13,16 @@ use Rattle.types.specs.declared.refusal.Refusal.{Refusal}
 use Rattle.types.specs.declared.refusal.Refusal.TheVariants.{NanProjection}
 use Rattle.float.proofs.Tests.{neither, either}
 use Rattle.std.specs.List.{list_any}
+use Rattle.std.proofs.lemmas.Bool.{false_from_ne_true, true_from_ne_false}
 use Rattle.axes.specs.Axes.{projections, separates, undefined_on, verdict_of}
 use Rattle.axes.specs.Reached.{Numbers, Defined, Separated, Passed, Reached, VerdictPromise}
 use Rattle.axes.proofs.Decided.{is_yes_of, verdict_join}
 use Rattle.axes.proofs.Disjoint.{some_is, is_some, separates_if_disjoint}
 
--- ---- a test that cannot hold, or cannot fail
-
-cannot_hold : (b : Bool) → (b ≡ true → ⊥) → b ≡ false
-cannot_hold true h = absurd (h refl)
-cannot_hold false h = refl
-
-cannot_fail : (b : Bool) → (b ≡ false → ⊥) → b ≡ true
-cannot_fail true h = refl
-cannot_fail false h = absurd (h refl)
-
 -- ---- numbers
 
 numbers : (xs : List Float) → list_any is_nan xs ≡ false → Numbers xs
-numbers xs h x m = cannot_hold (is_nan x) (λ e. true≢false (sym (is_some is_nan xs x m e) ∙ h))
+numbers xs h x m = false_from_ne_true (is_nan x) (λ e. true≢false (sym (is_some is_nan xs x m e) ∙ h))
 
 no_numbers : (xs : List Float) → list_any is_nan xs ≡ true → Numbers xs → ⊥
 no_numbers xs h n = let r = some_is is_nan xs h in true≢false (sym r.2 ∙ n r.0 r.1)
@@ -51,12 +42,12 @@ module _ {P : Type 0} (dot : P → P → Float) (ps qs : List P) where
       elim (either (list_any is_nan xs) (list_any is_nan ys) h) [ inl e ↦ no_numbers xs e d.0 | inr e ↦ no_numbers ys e d.1 ]
 
   all_numbers : (axis : P) → Defined dot ps qs axis → undefined_on dot ps qs axis ≡ false
-  all_numbers axis d = cannot_hold (undefined_on dot ps qs axis) (λ e. not_defined axis e d)
+  all_numbers axis d = false_from_ne_true (undefined_on dot ps qs axis) (λ e. not_defined axis e d)
 
   -- both tests fail on an axis that is passed, and only there
   passed_tests : (axis : P) → Passed dot ps qs axis → (undefined_on dot ps qs axis ≡ false) × (separates dot ps qs axis ≡ false)
   passed_tests axis p =
-      (all_numbers axis p.0, cannot_hold (separates dot ps qs axis) (λ e. p.1 ((separates_if_disjoint dot ps qs axis).0 e)))
+      (all_numbers axis p.0, false_from_ne_true (separates dot ps qs axis) (λ e. p.1 ((separates_if_disjoint dot ps qs axis).0 e)))
 
   tests_passed : (axis : P) → undefined_on dot ps qs axis ≡ false → separates dot ps qs axis ≡ false → Passed dot ps qs axis
   tests_passed axis u t = (defined axis u, λ d. true≢false (sym ((separates_if_disjoint dot ps qs axis).1 d) ∙ t))
@@ -95,7 +86,7 @@ module _ {P : Type 0} (dot : P → P → Float) (ps qs : List P) where
       rw (
         r.stands,
         skipped r.before (axis ∷ r.after) r.passed,
-        cannot_fail (undefined_on dot ps qs axis) (λ e. d (defined axis e)),
+        true_from_ne_false (undefined_on dot ps qs axis) (λ e. d (defined axis e)),
       )
 
   -- ---- one of them holds

@@ -1,12 +1,15 @@
 -- The edge of specs/Entry.antt, of slabs that come one by one.
-use Rattle.std.specs.Prelude.{◌≡◌, ℕ, ◌+◌, ◌*◌, Bool, true, false, not, cond, ◌&&◌, ◌||◌, List, [], ◌∷◌, ◌++◌, All, length, get_or, Float}
+use Rattle.std.specs.Prelude.{◌≡◌, ℕ, ◌+◌, ◌*◌, Bool, true, false, not, cond, ◌||◌, List, [], ◌∷◌, ◌++◌, All, length, get_or, Float}
 use Rattle.std.specs.Float.Ieee.{lt, le, eq, is_nan}
 use Rattle.std.proofs.Common.{refl, sym, ap, ◌∙◌, inl, inr, true≢false, append_assoc, arith}
 use Rattle.std.proofs.lemmas.List.Elements.{All-nil, All-cons, All-head, All-tail, All-append}
+use Rattle.std.proofs.lemmas.Bool.{false_from_ne_true}
 use Rattle.float.specs.Rounded.{+0}
 use Rattle.float.specs.Values.{min_of}
 use Rattle.float.proofs.Laws.{above_number}
 use Rattle.float.proofs.Order.{lt_one_way, lt_itself, lt_not}
+use Rattle.float.proofs.Tests.{or_true}
+use Rattle.rounded.proofs.Down.{both}
 use Rattle.rounded.proofs.Signed.{le_not, eq_not}
 use Rattle.rounded.proofs.Order.{le_numbers, le_of, level_itself}
 use Rattle.slabs.specs.declared.Slab.{Slab}
@@ -19,22 +22,10 @@ use Rattle.slabs.specs.Clip.{lowest, at_low, at_high, entry_of, crosses, ahead_o
 use Rattle.slabs.specs.Entry.{by_high, starts_at, first_at, edge_over, IsEdge, named, with_edge, interval_of, crossing_ahead_of, IsEntered}
 use Rattle.slabs.proofs.Promise.{lowest_number}
 
-cannot_hold : (b : Bool) → (b ≡ true → ⊥) → b ≡ false
-cannot_hold true f = absurd (f refl)
-cannot_hold false f = refl
-
-both : (a b : Bool) → a && b ≡ true → (a ≡ true) × (b ≡ true)
-both true b h = (refl, h)
-both false b h = absurd (true≢false (sym h))
-
 -- what equals something is a number
 eq_number : (x y : Float) → eq x y ≡ true → is_nan x ≡ false
 unfolding le
-eq_number x y h = (le_numbers x y (rw h (go (lt x y)))).0
-  where
-    go : (b : Bool) → (b || true) ≡ true
-    go true = refl
-    go false = refl
+eq_number x y h = (le_numbers x y (or_true (lt x y) (eq x y) (inr h))).0
 
 -- ---- which of the two edges
 
@@ -44,8 +35,8 @@ unfolding min_of
 either_edge a b = go (is_nan a) refl (lt b a) refl
   where
     go : (t : Bool) → is_nan a ≡ t → (u : Bool) → lt b a ≡ u → (t || u) ≡ not (le a (cond (t || u) b a))
-    go true g u h = rw (cannot_hold (le a b) (λ k. true≢false (sym g ∙ (le_numbers a b k).0))) refl
-    go false g true h = rw (cannot_hold (le a b) (λ k. true≢false (sym h ∙ le_not a b (rw k tt)))) refl
+    go true g u h = rw (false_from_ne_true (le a b) (λ k. true≢false (sym g ∙ (le_numbers a b k).0))) refl
+    go false g true h = rw (false_from_ne_true (le a b) (λ k. true≢false (sym h ∙ le_not a b (rw k tt)))) refl
     go false g false h = rw (le_of a a g g (lt_itself a)) refl
 
 pub by_high_is : (s : Slab) → by_high s ≡ not (le (at_low s) (entry_of s))
@@ -142,7 +133,7 @@ module _ (ss : List Slab) (s : Slab) (t : Float) (e : Edge) where
           2 * length ss + cond (by_high s) 2 1,
           refl,
           inr (
-            cannot_hold (eq x lowest) (λ q. true≢false (sym r ∙ lt_not t lowest x lowest_number k.not_lower (eq_not x lowest (rw q tt)).1)),
+            false_from_ne_true (eq x lowest) (λ q. true≢false (sym r ∙ lt_not t lowest x lowest_number k.not_lower (eq_not x lowest (rw q tt)).1)),
             record {
               before = ss;
               slab = s;
@@ -151,7 +142,7 @@ module _ (ss : List Slab) (s : Slab) (t : Float) (e : Edge) where
               passed =
                   λ i d less.
                   let y = entry_of (get_or ss i d) in
-                  cannot_hold (starts_at (get_or ss i d) x)
+                  false_from_ne_true (starts_at (get_or ss i d) x)
                   (λ q.
                   let b = both (crosses (get_or ss i d)) (eq y x) q in
                   true≢false (sym r ∙ lt_not t y x (eq_number y x b.1) (k.last i d less b.0) (eq_not y x (rw b.1 tt)).0));
