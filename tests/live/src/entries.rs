@@ -74,8 +74,7 @@ fn in_the_mirror(hit: Option<Hit>, slabs: &[Slab], axis: usize) -> (Option<Hit>,
     let low = 2 * axis as u64 + 1;
     match hit {
         Some([tmin, tmax, edge]) if edge == low || edge == low + 1 => {
-            let Slab { low: from, high: to, origin, direction } = slabs[axis];
-            let equal = (from - origin) / direction == (to - origin) / direction;
+            let equal = slabs[axis].quotients().is_some_and(|[p, q]| p == q);
             let other = if edge == low { low + 1 } else { low };
             (Some([tmin, tmax, if equal { low } else { other }]), Some(!equal))
         }

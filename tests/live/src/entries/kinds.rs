@@ -65,7 +65,7 @@ impl Kinds {
         }
         let tmin = f32::from_bits(tmin as u32);
         let entered_at = |t: f32| {
-            slabs.iter().filter(move |slab| quotients(slab).is_some_and(|[p, q]| p.min(q) == t))
+            slabs.iter().filter(move |slab| slab.quotients().is_some_and(|[p, q]| p.min(q) == t))
         };
         self.count(Kind::Corner, edge != 0 && entered_at(tmin).count() > 1);
         self.count(Kind::Lowest, edge == 0 && entered_at(f32::MIN).count() > 0);
@@ -78,7 +78,7 @@ impl Kinds {
         let numbers = slabs.iter().flat_map(|slab| slab.numbers());
         self.count(Kind::Subnormal, numbers.filter(|x| x.is_subnormal()).count() > 0);
         let by = edge.checked_sub(1).map(|place| slabs[place as usize / 2]);
-        let pair = by.as_ref().and_then(quotients);
+        let pair = by.as_ref().and_then(Slab::quotients);
         self.count(Kind::Equal, pair.is_some_and(|[p, q]| p == q));
         self.count(Kind::Zeros, pair.is_some_and(|[p, q]| p == q && p.to_bits() != q.to_bits()));
         self.count(Kind::OneIsNaN, pair.is_some_and(|[p, q]| p.is_nan() || q.is_nan()));
@@ -101,10 +101,4 @@ impl Kinds {
             "{inputs} inputs, no difference: {others}; an infinity and a NaN at each place {least} times or more"
         ))
     }
-}
-
-/// What is compared with the start of the interval: nothing, where the line goes along.
-fn quotients(slab: &Slab) -> Option<[f32; 2]> {
-    let Slab { low, high, origin, direction } = *slab;
-    (direction != 0.0).then(|| [(low - origin) / direction, (high - origin) / direction])
 }

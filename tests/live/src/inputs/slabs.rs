@@ -20,6 +20,12 @@ impl Slab {
         [self.low, self.high, self.origin, self.direction]
     }
 
+    /// What is compared with the start of the interval: nothing, where the line goes along.
+    pub fn quotients(&self) -> Option<[f32; 2]> {
+        let Slab { low, high, origin, direction } = *self;
+        (direction != 0.0).then(|| [(low - origin) / direction, (high - origin) / direction])
+    }
+
     fn from([low, high, origin, direction]: [f32; 4]) -> Self {
         Slab { low, high, origin, direction }
     }
